@@ -1,0 +1,5 @@
+pub mod Faults
+pub mod Layout
+pub mod Rules
+pub mod Reading
+pub mod Tables

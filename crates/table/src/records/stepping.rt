@@ -1,0 +1,67 @@
+use crate::records::RECORD_BYTES;
+use crate::records::Record;
+use crate::records::Table;
+use crate::records::reading::record;
+use model::Model;
+use model::ModelFault;
+ghost use mathlib.Core.Path.{_≡_};
+ghost use Prim.Native.Nat.{_*_};
+ghost use Rattle.table.specs.Tables.{file, table, record-numbered};
+
+impl Table {
+    // N, the number of states: known states are 0 to N - 1.
+    pub fn states(&self) -> usize
+        ensures { λ r. ⌜ r ≡ file (now (self .entry)) .states ⌝ }
+    {
+        self.states
+    }
+
+    // How many records the table has: one for each state and setting.
+    pub fn record_count(&self) -> usize
+        ensures { λ r. ⌜ r ≡ file (now (self .entry)) .states * file (now (self .entry)) .settings ⌝ }
+    {
+        self.bytes.len() / RECORD_BYTES
+    }
+
+    // Record i, from 0, or none.
+    pub fn record(&self, i: usize) -> Option<Record>
+        ensures { λ r. ⌜ r ≡ record-numbered (file (now (self .entry))) i ⌝ }
+    {
+        if i >= self.record_count() {
+            return None;
+        }
+        Some(record(self.bytes.as_slice(), i))
+    }
+}
+
+pub impl Model for Table as TableModel {
+    type State = u16;
+
+    ghost meaning = { λ t. table (file t) };
+
+    fn settings(&self) -> u8 {
+        self.settings as u8
+    }
+
+    fn knows(&self, state: u16) -> bool {
+        (state as usize) < self.states
+    }
+
+    fn same(&self, present: u16, measured: u16) -> bool {
+        present == measured
+    }
+
+    fn step(&self, state: u16, setting: u8) -> Result<(u16, u16), ModelFault> {
+        if !self.knows(state) {
+            return Err(ModelFault::UnknownState { layers: 0 });
+        }
+        if setting >= self.settings() {
+            return Err(ModelFault::UnknownSetting { layers: 0 });
+        }
+        let found = record(
+            self.bytes.as_slice(),
+            state as usize * self.settings + setting as usize,
+        );
+        Ok((found.mark, found.next))
+    }
+}
