@@ -3,3 +3,4 @@ pub mod Layout
 pub mod Rules
 pub mod Reading
 pub mod Tables
+pub mod Listing

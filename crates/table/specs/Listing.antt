@@ -1,0 +1,53 @@
+-- What is told of a table file: a line with N and K and a line for each record, or its refusal.
+use mathlib.Core.List.{List, [], _++_}
+use Prim.Native.Nat.{ℕ, zero, suc, _+_, _*_}
+use lib.Chars.{codes}
+use lib.ListN.{take}
+use Rattle.std.specs.Written.{decimal}
+use Rattle.std.specs.declared.option.Option.{Option}
+use Rattle.std.specs.declared.option.Option.the-variants.{Some, None}
+use Rattle.std.specs.declared.result.Result.{Result}
+use Rattle.std.specs.declared.result.Result.the-variants.{Ok, Err}
+use Rattle.table.specs.Faults.{number, value}
+use Rattle.table.specs.Layout.{record-at}
+use Rattle.table.specs.Reading.{File, read}
+use Rattle.table.specs.declared.fault.TableFault.{TableFault}
+use Rattle.table.specs.declared.records.Record.{Record}
+
+-- the most bytes that are looked at; of a longer file only that it is longer
+abbrev pub most-bytes : ℕ
+most-bytes = 65536
+
+-- refused N at P
+abbrev pub refused-line : ℕ → ℕ → List ℕ
+refused-line n p = codes "refused " ++ (decimal n ++ (codes " at " ++ (decimal p ++ codes "\n")))
+
+-- states N settings K
+abbrev pub shape-line : ℕ → ℕ → List ℕ
+shape-line n k = codes "states " ++ (decimal n ++ (codes " settings " ++ (decimal k ++ codes "\n")))
+
+-- state S setting A next T mark M
+abbrev pub record-line : Record → List ℕ
+record-line r =
+    codes "state " ++ (decimal (r .state) ++ (codes " setting " ++ (decimal (r .setting)
+    ++ (codes " next " ++ (decimal (r .next) ++ (codes " mark " ++ (decimal (r .mark) ++ codes "\n")))))))
+
+abbrev pub line-at : Option Record → List ℕ
+line-at (Some r) = record-line r
+line-at None = []
+
+-- the lines of the first n records
+abbrev pub record-lines : List ℕ → ℕ → List ℕ
+record-lines bs zero = []
+record-lines bs (suc n) = record-lines bs n ++ record-line (record-at bs n)
+
+abbrev pub table-text : File → List ℕ
+table-text f = shape-line (f .states) (f .settings) ++ record-lines (f .bytes) (f .states * f .settings)
+
+abbrev pub read-text : Result File TableFault → List ℕ
+read-text (Ok f) = table-text f
+read-text (Err e) = refused-line (number e) (value e)
+
+-- the text for a file; more than 65,536 bytes count as a length of 65,537
+abbrev pub listing : List ℕ → List ℕ
+listing bs = read-text (read (take (most-bytes + 1) bs))
