@@ -1,10 +1,10 @@
 // Models of a drainage plant: known states, numbered settings, the mark of a step and where it leads.
 pub mod fault;
 pub mod questions;
-//pub mod tariff;
+pub mod tariff;
 pub mod walking;
 
 pub use fault::ModelFault;
 pub use questions::Model;
-//pub use tariff::Tariff;
+pub use tariff::Tariff;
 pub use walking::WalkFault;

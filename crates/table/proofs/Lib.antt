@@ -1,4 +1,3 @@
-pub mod Firsts
 pub mod Decisions
 pub mod Lawful
 pub mod Lines

@@ -7,11 +7,15 @@ use Rattle.std.specs.declared.option.Option.{Option}
 use Rattle.std.specs.declared.option.Option.the-variants.{Some, None}
 use Rattle.std.specs.Options.{isSome}
 use Rattle.std.proofs.shelf.Tests.{false≢true}
-use Rattle.table.specs.Reading.{first-of, or-else}
+use Rattle.model.specs.First.{first-of, or-else}
 
 module _ {A : Type 0} (f : ℕ → Option A) (i n : ℕ) where
   first-step : i < n → first-of f i (n - i) ≡ or-else (f i) (first-of f (i + 1) (n - (i + 1)))
   first-step h = let e : n - i ≡ suc (n - (i + 1)) = omega arith in ap (first-of f i) e
+
+  -- where none is left, none is found
+  pub first-ends : n ≤ i → None ≡ first-of f i (n - i)
+  first-ends h = let e : n - i ≡ 0 = omega arith in sym (ap (first-of f i) e)
 
 or-else-some : {A : Type 0} (o p : Option A) → isSome o ≡ true → or-else o p ≡ o
 or-else-some (Some x) p e = refl

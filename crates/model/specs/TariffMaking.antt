@@ -1,0 +1,57 @@
+-- When the charges of a tariff are in range.
+use mathlib.Core.Path.{_≡_}
+use mathlib.Core.Bool.{true, cond}
+use mathlib.Core.List.{List}
+use Prim.Native.Nat.{ℕ, _≤_, _<_}
+use lib.Dec.{leb}
+use lib.ListN.{getD}
+use Rattle.std.specs.Results.{Cases, isOk}
+use Rattle.std.specs.declared.option.Option.{Option}
+use Rattle.std.specs.declared.option.Option.the-variants.{Some, None}
+use Rattle.std.specs.declared.result.Result.{Result}
+use Rattle.std.specs.declared.result.Result.the-variants.{Ok, Err}
+use Rattle.model.specs.First.{first-of}
+use Rattle.model.specs.Tariffs.{hours}
+use Rattle.model.specs.declared.tariff.BadCharge.{BadCharge}
+use Rattle.model.specs.declared.tariff.Tariff.{Tariff}
+
+-- the refusal's number, and what is returned with it
+abbrev pub charge-number : BadCharge → ℕ
+charge-number f = 9
+
+abbrev pub charge-hour : BadCharge → ℕ
+charge-hour f = f .hour
+
+-- a charge is in range up to 1,000
+abbrev pub Fair : List ℕ → ℕ → Type 0
+Fair charges hour = getD charges hour 0 ≤ 1000
+
+-- what is wrong with the charge of an hour
+abbrev pub dear : List ℕ → ℕ → Option ℕ
+dear charges hour = cond (leb (getD charges hour 0) 1000) None (Some hour)
+
+abbrev pub first-dear : List ℕ → Option ℕ
+first-dear charges = first-of (dear charges) 0 hours
+
+abbrev pub unless-dear : {A : Type 0} → Option ℕ → A → Result A BadCharge
+unless-dear (Some hour) x = Err (record { hour = hour })
+unless-dear None x = Ok x
+
+-- the charges with the model, or the refusal of the first charge above 1,000
+abbrev pub made-tariff : {M : Type 0} → List ℕ → M → Result (List ℕ × M) BadCharge
+made-tariff charges m = unless-dear (first-dear charges) (charges, m)
+
+-- the charges and the model that a tariff was made with
+abbrev pub parts : {M : Type 0} → Result (Tariff M) BadCharge → Result (List ℕ × M) BadCharge
+parts (Ok t) = Ok (t .charges, t .model)
+parts (Err e) = Err e
+
+-- What making a tariff answers.
+pub record Makes {M : Type 0} (charges : List ℕ) (m : M) (r : Result (Tariff M) BadCharge) : Type 0 where
+  -- a tariff with these charges over this model, or the refusal
+  pub value : parts r ≡ made-tariff charges m
+  -- it is made if and only if every charge is in range
+  pub made-if-fair : ((h : ℕ) → h < hours → Fair charges h) → isOk r ≡ true
+  pub fair-if-made : isOk r ≡ true → (h : ℕ) → h < hours → Fair charges h
+  -- refusal 9 comes with the first hour whose charge is out of range
+  pub refused-at-first : Cases r (λ _. Unit {0}) (λ f. (charge-number f ≡ 9) × (charge-hour f < hours) × (Fair charges (charge-hour f) → ⊥) × ((h : ℕ) → h < charge-hour f → Fair charges h))
