@@ -8,6 +8,13 @@ use Rattle.std.specs.declared.result.Result.the-variants.{Ok, Err}
 use Rattle.model.specs.Faults.{refusal}
 use Rattle.model.specs.declared.fault.ModelFault.{ModelFault}
 
+-- the most settings that a model has, and its highest mark
+abbrev pub most-settings : ℕ
+most-settings = 16
+
+abbrev pub highest-mark : ℕ
+highest-mark = 1000
+
 -- A model over states S (in the field's terms: a deterministic decision process).
 pub record Meaning (S : Type 0) : Type 0 where
   -- K, the number of settings (actions), which are numbered from 0
@@ -26,8 +33,8 @@ pub record Meaning (S : Type 0) : Type 0 where
 -- What every model owes.
 pub record Laws (S : Type 0) (m : Meaning S) : Type 0 where
   pub one-setting : 1 ≤ m .settings
-  pub few-settings : m .settings ≤ 16
-  pub small-marks : (s : S) (k : ℕ) → m .known s ≡ true → k < m .settings → m .mark s k ≤ 1000
+  pub few-settings : m .settings ≤ most-settings
+  pub small-marks : (s : S) (k : ℕ) → m .known s ≡ true → k < m .settings → m .mark s k ≤ highest-mark
   pub next-known : (s : S) (k : ℕ) → m .known s ≡ true → k < m .settings → m .known (m .next s k) ≡ true
   pub same-itself : (s : S) → m .known s ≡ true → m .same s s ≡ true
   pub few-layers : (s : S) (k : ℕ) → m .layers s k ≤ 255

@@ -11,7 +11,7 @@ use Rattle.std.specs.declared.option.Option.the-variants.{Some, None}
 use Rattle.std.specs.declared.result.Result.{Result}
 use Rattle.std.specs.declared.result.Result.the-variants.{Ok, Err}
 use Rattle.model.specs.First.{first-of}
-use Rattle.model.specs.Tariffs.{hours}
+use Rattle.model.specs.Tariffs.{hours, highest-charge}
 use Rattle.model.specs.declared.tariff.BadCharge.{BadCharge}
 use Rattle.model.specs.declared.tariff.Tariff.{Tariff}
 
@@ -24,11 +24,11 @@ charge-hour f = f .hour
 
 -- a charge is in range up to 1,000
 abbrev pub Fair : List ℕ → ℕ → Type 0
-Fair charges hour = getD charges hour 0 ≤ 1000
+Fair charges hour = getD charges hour 0 ≤ highest-charge
 
 -- what is wrong with the charge of an hour
 abbrev pub dear : List ℕ → ℕ → Option ℕ
-dear charges hour = cond (leb (getD charges hour 0) 1000) None (Some hour)
+dear charges hour = cond (leb (getD charges hour 0) highest-charge) None (Some hour)
 
 abbrev pub first-dear : List ℕ → Option ℕ
 first-dear charges = first-of (dear charges) 0 hours

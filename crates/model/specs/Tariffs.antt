@@ -11,6 +11,10 @@ use Rattle.model.specs.Meaning.{Meaning}
 abbrev pub hours : ℕ
 hours = 24
 
+-- the highest charge
+abbrev pub highest-charge : ℕ
+highest-charge = 1000
+
 -- the hour after this one; after 23 comes 0
 abbrev pub hour-after : ℕ → ℕ
 hour-after hour = cond (eqb hour 23) 0 (hour + 1)

@@ -37,13 +37,10 @@ impl ModelFault {
     pub fn handed_up(self) -> ModelFault
         ensures { λ r. ⌜ r ≡ handed-up self ⌝ }
     {
+        let layers = self.layers().saturating_add(1);
         match self {
-            ModelFault::UnknownState { layers } => ModelFault::UnknownState {
-                layers: layers.saturating_add(1),
-            },
-            ModelFault::UnknownSetting { layers } => ModelFault::UnknownSetting {
-                layers: layers.saturating_add(1),
-            },
+            ModelFault::UnknownState { .. } => ModelFault::UnknownState { layers },
+            ModelFault::UnknownSetting { .. } => ModelFault::UnknownSetting { layers },
         }
     }
 }

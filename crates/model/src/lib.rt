@@ -5,6 +5,8 @@ pub mod tariff;
 pub mod walking;
 
 pub use fault::ModelFault;
+pub use questions::HIGHEST_MARK;
+pub use questions::MOST_SETTINGS;
 pub use questions::Model;
 pub use tariff::Tariff;
 pub use walking::WalkFault;

@@ -2,6 +2,12 @@ use crate::fault::ModelFault;
 ghost use mathlib.Core.Path.{_≡_};
 ghost use Rattle.model.specs.Meaning.{Meaning, Laws, step as stepped};
 
+// The most settings that a model has.
+pub const MOST_SETTINGS: u8 = 16;
+
+// The highest mark.
+pub const HIGHEST_MARK: u16 = 1000;
+
 // A model of a plant: known states and K settings numbered from 0. For each known state and
 // setting it has one mark, 0 to 1,000, and one next state, also known.
 // In the field's terms: a deterministic decision process with states, actions and rewards.

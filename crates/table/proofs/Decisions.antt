@@ -16,7 +16,7 @@ use Rattle.std.specs.Results.{isOk}
 use Rattle.std.proofs.shelf.Bits.{div-below, mod-below}
 use Rattle.std.proofs.shelf.Tests.{ltb-true, ltb-false, leb-true, leb-false, eqb-true, eqb-false, lt-ltb, le-leb, eq-eqb, and-parts, and-from, both-ways, false≢true, cond-true}
 use Rattle.model.specs.First.{first-of}
-use Rattle.model.specs.Meaning.{step}
+use Rattle.model.specs.Meaning.{step, highest-mark}
 use Rattle.model.proofs.Walks.{step-granted}
 use Rattle.table.specs.Faults.{number, value as value-of, refusal}
 use Rattle.table.specs.Layout.{record-bytes, record-at, count, last, states, settings}
@@ -41,17 +41,17 @@ abbrev Record-decided : List ℕ → ℕ → Option TableFault → Type 0
 Record-decided bs i None = Sound-record bs i
 Record-decided bs i (Some f) = (value-of f ≡ i) × Record-breaks bs (number f) i
 
-by-mark : (bs : List ℕ) (i : ℕ) → In-order bs i → Next-known bs i → (b : Bool) → leb (record-at bs i .mark) 1000 ≡ b → Record-decided bs i (cond b None (Some (refusal 7 i)))
+by-mark : (bs : List ℕ) (i : ℕ) → In-order bs i → Next-known bs i → (b : Bool) → leb (record-at bs i .mark) highest-mark ≡ b → Record-decided bs i (cond b None (Some (refusal 7 i)))
 by-mark bs i o n true e = (o, n, leb-true _ _ e)
 by-mark bs i o n false e = (refl, inr (inr (refl, o, n, λ m. both-ways _ e (le-leb _ _ m))))
 
 by-next : (bs : List ℕ) (i : ℕ) → In-order bs i → (b : Bool) → ltb (record-at bs i .next) (states bs) ≡ b
-    → Record-decided bs i (cond b (cond (leb (record-at bs i .mark) 1000) None (Some (refusal 7 i))) (Some (refusal 6 i)))
-by-next bs i o true e = by-mark bs i o (ltb-true _ _ e) (leb (record-at bs i .mark) 1000) refl
+    → Record-decided bs i (cond b (cond (leb (record-at bs i .mark) highest-mark) None (Some (refusal 7 i))) (Some (refusal 6 i)))
+by-next bs i o true e = by-mark bs i o (ltb-true _ _ e) (leb (record-at bs i .mark) highest-mark) refl
 by-next bs i o false e = (refl, inr (inl (refl, o, λ n. both-ways _ e (lt-ltb _ _ n))))
 
 by-order : (bs : List ℕ) (i : ℕ) (b : Bool) → (eqb (record-at bs i .state) (i / settings bs) && eqb (record-at bs i .setting) (i % settings bs)) ≡ b
-    → Record-decided bs i (cond b (cond (ltb (record-at bs i .next) (states bs)) (cond (leb (record-at bs i .mark) 1000) None (Some (refusal 7 i))) (Some (refusal 6 i))) (Some (refusal 5 i)))
+    → Record-decided bs i (cond b (cond (ltb (record-at bs i .next) (states bs)) (cond (leb (record-at bs i .mark) highest-mark) None (Some (refusal 7 i))) (Some (refusal 6 i))) (Some (refusal 5 i)))
 by-order bs i true e = by-next bs i (in-order-from bs i e) (ltb (record-at bs i .next) (states bs)) refl
 by-order bs i false e = (refl, inl (refl, out-of-order-from bs i e))
 
@@ -60,7 +60,7 @@ record-decided bs i = by-order bs i _ refl
 
 -- the whole file
 
-abbrev Decided : List ℕ → Result Shape TableFault → Type 0
+abbrev pub Decided : List ℕ → Result Shape TableFault → Type 0
 Decided bs (Ok s) = Obeys-rules bs × (s ≡ shape bs)
 Decided bs (Err f) = First-broken bs (number f) (value-of f)
 
@@ -83,8 +83,8 @@ by-records bs w c (Some f) e =
 
 by-complete : (bs : List ℕ) → Whole-records bs → (b : Bool) → complete bs ≡ b
     → Decided bs (cond b (unless (first-of (record-fault bs (states bs) (settings bs)) 0 (count bs)) (shape bs)) (Err (refusal 4 (last bs))))
-by-complete bs w true e = let p = and-parts _ _ e in by-records bs w (leb-true _ _ (p .0), eqb-true _ _ (p .1)) _ refl
-by-complete bs w false e = inr (inl (refl, refl, w, λ c. both-ways _ e (and-from _ _ (le-leb _ _ (c .0)) (eq-eqb _ _ (c .1)))))
+by-complete bs w true e = let p = and-parts _ _ e in by-records bs w (ltb-true _ _ (p .0), eqb-true _ _ (p .1)) _ refl
+by-complete bs w false e = inr (inl (refl, refl, w, λ c. both-ways _ e (and-from _ _ (lt-ltb _ _ (c .0)) (eq-eqb _ _ (c .1)))))
 
 by-whole : (bs : List ℕ) (b : Bool) → whole bs ≡ b
     → Decided bs (cond b (cond (complete bs) (unless (first-of (record-fault bs (states bs) (settings bs)) 0 (count bs)) (shape bs)) (Err (refusal 4 (last bs)))) (Err (refusal 3 (length bs))))
@@ -100,14 +100,14 @@ breaks-none bs n i s (inl b) = b .1 (s .0)
 breaks-none bs n i s (inr (inl b)) = b .2 (s .1)
 breaks-none bs n i s (inr (inr b)) = b .3 (s .2)
 
-broken-none : (bs : List ℕ) (n v : ℕ) → Obeys-rules bs → First-broken bs n v → ⊥
+pub broken-none : (bs : List ℕ) (n v : ℕ) → Obeys-rules bs → First-broken bs n v → ⊥
 broken-none bs n v o (inl b) = b .2 (o .whole-records)
 broken-none bs n v o (inr (inl b)) = b .3 (o .complete)
 broken-none bs n v o (inr (inr b)) = breaks-none bs n v (o .sound-records v (b .2)) (b .4)
 
 -- the model
 
-abbrev file-of : List ℕ → File
+abbrev pub file-of : List ℕ → File
 file-of bs = record { bytes = bs; states = states bs; settings = settings bs }
 
 steps : (bs : List ℕ) → Obeys-rules bs → Steps-as-recorded bs (table (file-of bs))

@@ -1,3 +1,4 @@
 pub mod Decisions
 pub mod Lawful
 pub mod Lines
+pub mod Tellings

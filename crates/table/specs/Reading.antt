@@ -9,6 +9,7 @@ use Rattle.std.specs.declared.option.Option.the-variants.{Some, None}
 use Rattle.std.specs.declared.result.Result.{Result}
 use Rattle.std.specs.declared.result.Result.the-variants.{Ok, Err}
 use Rattle.model.specs.First.{first-of}
+use Rattle.model.specs.Meaning.{most-settings, highest-mark}
 use Rattle.table.specs.Faults.{refusal}
 use Rattle.table.specs.Layout.{record-bytes, record-at, count, last, states, settings}
 use Rattle.table.specs.declared.fault.TableFault.{TableFault}
@@ -24,14 +25,14 @@ abbrev pub whole : List ℕ → Bool
 whole bs = ltb 0 (length bs) && eqb (length bs % record-bytes) 0
 
 abbrev pub complete : List ℕ → Bool
-complete bs = leb (record-at bs (last bs) .setting) 15 && eqb (count bs) (states bs * settings bs)
+complete bs = ltb (record-at bs (last bs) .setting) most-settings && eqb (count bs) (states bs * settings bs)
 
 -- what is wrong with record i of a table of n states and k settings
 abbrev pub record-fault : List ℕ → ℕ → ℕ → ℕ → Option TableFault
 record-fault bs n k i =
     cond (eqb (record-at bs i .state) (i / k) && eqb (record-at bs i .setting) (i % k))
     (cond (ltb (record-at bs i .next) n)
-    (cond (leb (record-at bs i .mark) 1000) None (Some (refusal 7 i)))
+    (cond (leb (record-at bs i .mark) highest-mark) None (Some (refusal 7 i)))
     (Some (refusal 6 i)))
     (Some (refusal 5 i))
 

@@ -4,15 +4,16 @@ use mathlib.Core.List.{List}
 use mathlib.Core.Logic.{_⊎_}
 use Prim.Native.Nat.{ℕ, _*_, _/_, _%_, _≤_, _<_}
 use lib.ListN.{length}
+use Rattle.model.specs.Meaning.{most-settings, highest-mark}
 use Rattle.table.specs.Layout.{record-bytes, record-at, count, last, states, settings}
 
 -- there are records, and each is whole
 abbrev pub Whole-records : List ℕ → Type 0
 Whole-records bs = (0 < length bs) × (length bs % record-bytes ≡ 0)
 
--- the last setting is at most 15, and there is one record for each state and setting
+-- the last setting is below 16, and there is one record for each state and setting
 abbrev pub Complete : List ℕ → Type 0
-Complete bs = (record-at bs (last bs) .setting ≤ 15) × (count bs ≡ states bs * settings bs)
+Complete bs = (record-at bs (last bs) .setting < most-settings) × (count bs ≡ states bs * settings bs)
 
 -- record i belongs to state i / K and setting i mod K
 abbrev pub In-order : List ℕ → ℕ → Type 0
@@ -22,7 +23,7 @@ abbrev pub Next-known : List ℕ → ℕ → Type 0
 Next-known bs i = record-at bs i .next < states bs
 
 abbrev pub Mark-in-range : List ℕ → ℕ → Type 0
-Mark-in-range bs i = record-at bs i .mark ≤ 1000
+Mark-in-range bs i = record-at bs i .mark ≤ highest-mark
 
 -- what a record has to obey
 abbrev pub Sound-record : List ℕ → ℕ → Type 0

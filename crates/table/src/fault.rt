@@ -6,7 +6,7 @@ ghost use Rattle.table.specs.Faults.{number as number-of, value as value-of, R
 pub enum TableFault {
     // refusal 3, with the length in bytes: the file is empty or its length is no multiple of 8
     BadLength { length: usize },
-    // refusal 4, with the last record: its setting is above 15, or the count is not N × K
+    // refusal 4, with the last record: its setting is above 15 or the count is not N × K
     BadCount { record: usize },
     // refusal 5, with the record: it is not the one of its state and setting
     OutOfOrder { record: usize },

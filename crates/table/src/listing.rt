@@ -8,7 +8,7 @@ ghost use mathlib.Core.Path.{_≡_};
 ghost use Rattle.std.specs.Of.String.{string-bytes};
 ghost use Rattle.std.specs.Of.Vec.{vec-items};
 ghost use Rattle.std.specs.Vec.{made};
-ghost use Rattle.table.specs.Listing.{refused-line, shape-line, record-line, line-at, table-text, listing as listing-of};
+ghost use Rattle.table.specs.Listing.{refused-line, shape-line, record-line, line-at, table-text, Tells};
 ghost use Rattle.table.specs.Tables.{file, record-numbered};
 
 // The most bytes of a file that are looked at.
@@ -66,7 +66,7 @@ fn table_text(heap: Global, table: &Table) -> Result<String, AllocError>
 
 // What a table file holds, or its refusal, as text. More than 65,536 bytes count as a length of 65,537.
 pub fn listing(heap: Global, file: Vec<u8>) -> Result<String, AllocError>
-    ensures { λ r. ⌜ made r (λ s. string-bytes s ≡ listing-of (vec-items file)) ⌝ }
+    ensures { λ r. ⌜ made r (λ s. Tells (vec-items file) (string-bytes s)) ⌝ }
 {
     let mut bytes = file;
     bytes.truncate(MOST_BYTES + 1);

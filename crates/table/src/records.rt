@@ -1,4 +1,5 @@
 // A model read off the records of a table file, which it owns.
+pub mod contents;
 pub mod reading;
 pub mod stepping;
 
@@ -9,12 +10,6 @@ ghost use Rattle.table.specs.Layout.{record-bytes, record-at};
 
 // The bytes of a record.
 pub const RECORD_BYTES: usize = 8;
-
-// The highest mark.
-pub const HIGHEST_MARK: u16 = 1000;
-
-// The highest setting.
-pub const HIGHEST_SETTING: u16 = 15;
 
 // A record: from this state, under this setting, the model goes to the next state and earns the mark.
 #[derive(Clone, Copy, PartialEq, Eq, Debug)]

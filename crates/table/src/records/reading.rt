@@ -1,9 +1,9 @@
 use crate::fault::TableFault;
-use crate::records::HIGHEST_MARK;
-use crate::records::HIGHEST_SETTING;
 use crate::records::RECORD_BYTES;
 use crate::records::Record;
 use crate::records::Table;
+use model::HIGHEST_MARK;
+use model::MOST_SETTINGS;
 ghost use mathlib.Core.Path.{_≡_};
 ghost use Prim.Native.Nat.{_+_, _*_, _<_, _≤_};
 ghost use lib.ListN.{length};
@@ -88,7 +88,7 @@ fn check_file(bytes: &[u8]) -> Result<Shape, TableFault>
         states: last.state as usize + 1,
         settings: last.setting as usize + 1,
     };
-    if last.setting > HIGHEST_SETTING || count != shape.states * shape.settings {
+    if last.setting >= MOST_SETTINGS as u16 || count != shape.states * shape.settings {
         return Err(TableFault::BadCount { record: count - 1 });
     }
     match first_fault(bytes, shape, count) {
