@@ -4,10 +4,12 @@ use mathlib.Core.List.{List, [], _∷_, map}
 use Prim.Native.Nat.{ℕ, zero, suc, _≤_, _<_}
 use native.Mathlib.Omega.{arith}
 use lib.ListN.{length, getD, take}
+use Rattle.std.specs.declared.option.Option.the-variants.{Some, None}
 use Rattle.std.proofs.shelf.Lists.{length-take-le, getD-take}
+use Rattle.std.proofs.shelf.Tests.{cond-true, cond-false, lt-ltb, le-ltb}
 use Rattle.basin.specs.Ranges.{setting-of, cost-of}
 use Rattle.basin.specs.Making.{costed, parameters}
-use Rattle.basin.specs.Stepping.{setting-at}
+use Rattle.basin.specs.Stepping.{setting-at, setting-numbered}
 use Rattle.basin.specs.declared.metres.Basin.{Basin}
 use Rattle.basin.specs.declared.metres.CostedSetting.{CostedSetting}
 use Rattle.basin.specs.declared.metres.Setting.{Setting}
@@ -44,9 +46,19 @@ module _ (b : Basin) where
   settings-counted = costed-length _ _ (front-settings ∙ sym front-costs) ∙ front-settings
 
   -- a setting and its cost stand at the same place
-  pub setting-there : (k : ℕ) → k < b .count → setting-at (parameters b) k ≡ record { setting = getD (b .settings) k Rest; cost = getD (b .costs) k 0 }
+  setting-there : (k : ℕ) → k < b .count → setting-at (parameters b) k ≡ record { setting = getD (b .settings) k Rest; cost = getD (b .costs) k 0 }
   setting-there k h =
       let s = front-settings in
       let c = front-costs in
       costed-at (take (b .count) (b .settings)) (take (b .count) (b .costs)) k (omega arith) (omega arith)
       ∙ rw (getD-take (b .count) (b .settings) k Rest h, getD-take (b .count) (b .costs) k 0 h) refl
+
+  pub numbered : (k : ℕ) → k < b .count → setting-numbered (parameters b) k ≡ Some (record { setting = getD (b .settings) k Rest; cost = getD (b .costs) k 0 })
+  numbered k h =
+      let counted = settings-counted in
+      cond-true _ _ _ (lt-ltb k (length (parameters b .settings)) (omega arith)) ∙ ap Some (setting-there k h)
+
+  pub none-numbered : (k : ℕ) → b .count ≤ k → setting-numbered (parameters b) k ≡ None
+  none-numbered k h =
+      let counted = settings-counted in
+      cond-false _ _ _ (le-ltb k (length (parameters b .settings)) (omega arith))

@@ -1,7 +1,7 @@
 -- The first test that fails: step by step over a list, and what it says of each test.
-use mathlib.Core.Path.{_≡_, refl, sym, ap, subst, _∙_}
-use mathlib.Core.Bool.{Bool, true, false, cond}
-use mathlib.Core.List.{List, [], _∷_, map}
+use mathlib.Core.Path.{_≡_, refl, sym, ap, _∙_}
+use mathlib.Core.Bool.{Bool, true, false}
+use mathlib.Core.List.{List, [], _∷_, _++_, map}
 use Prim.Native.Nat.{ℕ, zero, suc, _+_, _≤_, _<_}
 use native.Mathlib.Omega.{arith}
 use lib.ListN.{length, getD, drop}
@@ -26,6 +26,19 @@ module _ {A : Type 0} (ok : A → Bool) (xs : List A) (n i : ℕ) (d : A) where
 
   pub first-none : length xs ≤ i → first-false (n + i) (map ok (drop i xs)) ≡ None
   first-none h = at-drop-all (λ ys. first-false (n + i) (map ok ys)) xs i h
+
+-- of two lists one behind the other, the first failure in front decides, and where there is none that behind
+pub first-in-front : (n : ℕ) (fs bs : List Bool) (k : ℕ) → Some k ≡ first-false n fs → Some k ≡ first-false n (fs ++ bs)
+first-in-front n [] bs k e = let z : _≡_ {A = ℕ} 0 1 = cc in let f : ⊥ = omega arith in absurd f
+first-in-front n (true ∷ fs) bs k e = first-in-front (n + 1) fs bs k e
+first-in-front n (false ∷ fs) bs k e = e
+
+pub first-behind : (n : ℕ) (fs bs : List Bool) (o : Option ℕ) → None ≡ first-false n fs → o ≡ first-false (n + length fs) bs → o ≡ first-false n (fs ++ bs)
+first-behind n [] bs o e b = let same : n + 0 ≡ n = omega arith in b ∙ ap (λ (k : ℕ). first-false k bs) same
+first-behind n (true ∷ fs) bs o e b =
+    let same : n + suc (length fs) ≡ n + 1 + length fs = omega arith in
+    first-behind (n + 1) fs bs o e (b ∙ ap (λ (k : ℕ). first-false k bs) same)
+first-behind n (false ∷ fs) bs o e b = let z : _≡_ {A = ℕ} 0 1 = cc in let f : ⊥ = omega arith in absurd f
 
 -- where none fails, each passes
 pub each-passes : (n : ℕ) (bs : List Bool) → first-false n bs ≡ None → (i : ℕ) → getD bs i true ≡ true

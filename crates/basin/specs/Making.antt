@@ -18,6 +18,7 @@ use Rattle.basin.specs.declared.metres.Basin.{Basin}
 use Rattle.basin.specs.declared.metres.CostedSetting.{CostedSetting}
 use Rattle.basin.specs.declared.metres.Setting.{Setting}
 
+-- these as the parameters of a basin
 abbrev pub given-parameters : Float → Float → Float → Float → List CostedSetting → Parameters
 given-parameters depth target band fade settings = record { depth = depth; target = target; band = band; fade = fade; settings = settings }
 

@@ -1,8 +1,11 @@
 -- What a basin does with a level and an inflow. All arithmetic is that of doubles, each operation rounded.
-use mathlib.Core.Bool.{Bool, false, cond, _&&_}
+use mathlib.Core.Bool.{false, cond, _&&_}
 use Prim.Native.Nat.{ℕ, _-_}
+use lib.Dec.{ltb}
 use lib.ListN.{length, getD}
 use lib.Ieee.{Float, binary64, add, sub, mul, lt, le, eq}
+use Rattle.std.specs.declared.option.Option.{Option}
+use Rattle.std.specs.declared.option.Option.the-variants.{Some, None}
 use Rattle.std.specs.Floats.{withSign}
 use Rattle.model.specs.Meaning.{Meaning}
 use Rattle.basin.specs.Bits.{water-of, bits-of}
@@ -41,6 +44,10 @@ grade target band level =
 -- the setting with the number k, with its cost
 abbrev pub setting-at : Parameters → ℕ → CostedSetting
 setting-at p k = getD (p .settings) k (record { setting = Rest; cost = 0 })
+
+-- the same, if there is one: k is below K
+abbrev pub setting-numbered : Parameters → ℕ → Option CostedSetting
+setting-numbered p k = cond (ltb k (length (p .settings))) (Some (setting-at p k)) None
 
 -- the state after a step under the setting k
 abbrev pub next : Parameters → Water → ℕ → Water

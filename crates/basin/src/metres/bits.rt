@@ -10,9 +10,10 @@ impl Water {
     pub fn bits(self) -> WaterBits
         ensures { λ r. ⌜ r ≡ bits-of self ⌝ }
     {
+        let Water { level, inflow } = self;
         WaterBits {
-            level: f64_to_bits_with_nan(self.level),
-            inflow: f64_to_bits_with_nan(self.inflow),
+            level: f64_to_bits_with_nan(level),
+            inflow: f64_to_bits_with_nan(inflow),
         }
     }
 }
@@ -22,9 +23,10 @@ impl WaterBits {
     pub fn water(self) -> Water
         ensures { λ r. ⌜ r ≡ water-of self ⌝ }
     {
+        let WaterBits { level, inflow } = self;
         Water {
-            level: f64_from_bits_with_nan(self.level),
-            inflow: f64_from_bits_with_nan(self.inflow),
+            level: f64_from_bits_with_nan(level),
+            inflow: f64_from_bits_with_nan(inflow),
         }
     }
 }

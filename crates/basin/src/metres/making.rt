@@ -8,8 +8,9 @@ ghost use mathlib.Core.Path.{_≡_};
 ghost use mathlib.Core.List.{map};
 ghost use Prim.Native.Nat.{_≤_};
 ghost use lib.ListN.{length, take};
+ghost use Rattle.std.specs.declared.option.Option.the-variants.{None};
 ghost use Rattle.basin.specs.First.{first-false};
-ghost use Rattle.basin.specs.Ranges.{ranges, strength-in-range, setting-in-range, setting-of, cost-of};
+ghost use Rattle.basin.specs.Ranges.{ranges, number-ranges, strength-in-range, setting-in-range, setting-of, cost-of};
 ghost use Rattle.basin.specs.Making.{given-parameters, parameters, viewed, judged, made, Accepted-if-all-in-range, Refused-at-first-out-of-range};
 
 // The greatest depth, in metres.
@@ -46,19 +47,57 @@ impl CostedSetting {
     }
 }
 
-// Refuses the first setting that is out of range; the first of them is parameter 6.
-fn check_settings(given: &[CostedSetting]) -> Result<(), BadParameter>
-    requires { ⌜ length (now given) ≤ 8 ⌝ }
-    ensures { λ r. ⌜ r ≡ judged (first-false 6 (map setting-in-range (now (given .entry)))) tt ⌝ }
+// The number of the first parameter from depth to the count of settings that is out of range.
+fn first_number_out(depth: f64, target: f64, band: f64, fade: f64, count: usize) -> Option<u8>
+    ensures { λ r. ⌜ r ≡ first-false 1 (number-ranges depth target band fade count) ⌝ }
 {
-    for (i, setting) in given.iter().enumerate() {
-        if !setting.in_range() {
-            return Err(BadParameter {
-                parameter: 6 + i as u8,
-            });
+    if !above(depth, 0.0, DEEPEST) {
+        return Some(1);
+    }
+    if !within(target, 0.0, depth) {
+        return Some(2);
+    }
+    if !above(band, 0.0, depth) {
+        return Some(3);
+    }
+    if !within(fade, 0.0, 1.0) {
+        return Some(4);
+    }
+    if count < 1 || count > MOST_SETTINGS {
+        return Some(5);
+    }
+    None
+}
+
+// The number of the first setting that is out of range; the first of them is parameter 6.
+fn first_setting_out(given: &[CostedSetting]) -> Option<u8>
+    requires { ⌜ length (now given) ≤ 8 ⌝ }
+    ensures { λ r. ⌜ r ≡ first-false 6 (map setting-in-range (now (given .entry))) ⌝ }
+{
+    for (i, costed) in given.iter().enumerate() {
+        if !costed.in_range() {
+            return Some(6 + i as u8);
         }
     }
-    Ok(())
+    None
+}
+
+// The number of the first parameter that is out of range, from 1.
+fn first_out(
+    depth: f64,
+    target: f64,
+    band: f64,
+    fade: f64,
+    settings: &[CostedSetting],
+) -> Option<u8>
+    ensures value { λ r. ⌜ r ≡ first-false 1 (ranges (given-parameters depth target band fade (now (settings .entry)))) ⌝ }
+    ensures accepted_if_all_in_range { λ r. ⌜ Accepted-if-all-in-range (given-parameters depth target band fade (now (settings .entry))) (judged r (given-parameters depth target band fade (now (settings .entry)))) ⌝ }
+    ensures refused_at_first_out_of_range { λ r. ⌜ Refused-at-first-out-of-range (given-parameters depth target band fade (now (settings .entry))) (judged r (given-parameters depth target band fade (now (settings .entry)))) ⌝ }
+{
+    match first_number_out(depth, target, band, fade, settings.len()) {
+        Some(number) => Some(number),
+        None => first_setting_out(settings),
+    }
 }
 
 // The settings without their costs, and rest in the places behind them.
@@ -87,35 +126,29 @@ fn eight_costs(given: &[CostedSetting]) -> [u16; 8]
     all
 }
 
-// Refuses the first parameter that is out of range, by its number from 1.
-fn check_parameters(
-    depth: f64,
-    target: f64,
-    band: f64,
-    fade: f64,
-    settings: &[CostedSetting],
-) -> Result<(), BadParameter>
-    ensures { λ r. ⌜ r ≡ judged (first-false 1 (ranges (given-parameters depth target band fade (now (settings .entry))))) tt ⌝ }
-{
-    if !above(depth, 0.0, DEEPEST) {
-        return Err(BadParameter { parameter: 1 });
-    }
-    if !within(target, 0.0, depth) {
-        return Err(BadParameter { parameter: 2 });
-    }
-    if !above(band, 0.0, depth) {
-        return Err(BadParameter { parameter: 3 });
-    }
-    if !within(fade, 0.0, 1.0) {
-        return Err(BadParameter { parameter: 4 });
-    }
-    if settings.is_empty() || settings.len() > MOST_SETTINGS {
-        return Err(BadParameter { parameter: 5 });
-    }
-    check_settings(settings)
-}
-
 impl Basin {
+    // The basin with these parameters, which are all in range.
+    fn with_parameters(
+        depth: f64,
+        target: f64,
+        band: f64,
+        fade: f64,
+        settings: &[CostedSetting],
+    ) -> Basin
+        requires { ⌜ first-false 1 (ranges (given-parameters depth target band fade (now settings))) ≡ None ⌝ }
+        ensures { λ r. ⌜ parameters r ≡ given-parameters depth target band fade (now (settings .entry)) ⌝ }
+    {
+        Basin {
+            depth,
+            target,
+            band,
+            fade,
+            count: settings.len(),
+            settings: eight_settings(settings),
+            costs: eight_costs(settings),
+        }
+    }
+
     // A basin with these parameters, or the refusal of the first that is out of range: depth above
     // 0, to 100; target 0 to depth; band above 0, to depth; fade 0 to 1; 1 to 8 settings; then each
     // setting with its cost.
@@ -130,15 +163,9 @@ impl Basin {
         ensures accepted_if_all_in_range { λ r. ⌜ Accepted-if-all-in-range (given-parameters depth target band fade (now (settings .entry))) (viewed parameters r) ⌝ }
         ensures refused_at_first_out_of_range { λ r. ⌜ Refused-at-first-out-of-range (given-parameters depth target band fade (now (settings .entry))) (viewed parameters r) ⌝ }
     {
-        check_parameters(depth, target, band, fade, settings)?;
-        Ok(Basin {
-            depth,
-            target,
-            band,
-            fade,
-            count: settings.len(),
-            settings: eight_settings(settings),
-            costs: eight_costs(settings),
-        })
+        match first_out(depth, target, band, fade, settings) {
+            Some(parameter) => Err(BadParameter { parameter }),
+            None => Ok(Basin::with_parameters(depth, target, band, fade, settings)),
+        }
     }
 }

@@ -1,4 +1,5 @@
 use crate::metres::Basin;
+use crate::metres::CostedSetting;
 use crate::metres::Setting;
 use crate::metres::Water;
 use crate::metres::WaterBits;
@@ -6,9 +7,10 @@ use crate::metres::ranges::within;
 use model::Model;
 use model::ModelFault;
 ghost use mathlib.Core.Path.{_≡_};
+ghost use lib.ListN.{length};
 ghost use Rattle.model.specs.Meaning.{step as stepped};
 ghost use Rattle.basin.specs.Making.{parameters};
-ghost use Rattle.basin.specs.Stepping.{water, basin, outflow-of, next-level, next-inflow, grade};
+ghost use Rattle.basin.specs.Stepping.{water, basin, outflow-of, raw-level, setting-numbered, next-level, next-inflow, grade};
 
 // The greatest inflow that is known, in metres a step.
 const LARGEST_INFLOW: f64 = 10.0;
@@ -24,10 +26,39 @@ impl Setting {
             Setting::Gate(share) => share * level,
         }
     }
+
+    // The level after a step, in a basin that had neither bottom nor rim.
+    fn raw_level(self, state: Water) -> f64
+        ensures { λ r. ⌜ r ≡ raw-level self state ⌝ }
+    {
+        (state.level + state.inflow) - self.outflow(state.level)
+    }
 }
 
 impl Basin {
-    // The raw level, kept between 0 and the depth.
+    // K, the number of settings.
+    fn settings_count(&self) -> u8
+        ensures { λ r. ⌜ r ≡ length (parameters (now (self .entry)) .settings) ⌝ }
+    {
+        self.count as u8
+    }
+
+    // The setting with this number, with its cost, if it is below K.
+    fn setting_numbered(&self, setting: u8) -> Option<CostedSetting>
+        ensures { λ r. ⌜ r ≡ setting-numbered (parameters (now (self .entry))) setting ⌝ }
+    {
+        let place = setting as usize;
+        if place < self.count {
+            Some(CostedSetting {
+                setting: self.settings[place],
+                cost: self.costs[place],
+            })
+        } else {
+            None
+        }
+    }
+
+    // The raw level if it lies from 0 to the depth, the depth if it is above that, else 0.
     fn next_level(&self, raw: f64) -> f64
         ensures { λ r. ⌜ r ≡ next-level (now (self .entry) .depth) raw ⌝ }
     {
@@ -40,7 +71,7 @@ impl Basin {
         }
     }
 
-    // The inflow, faded.
+    // The inflow, faded, if that lies from 0 to 10, else 0.
     fn next_inflow(&self, inflow: f64) -> f64
         ensures { λ r. ⌜ r ≡ next-inflow (now (self .entry) .fade) inflow ⌝ }
     {
@@ -52,7 +83,8 @@ impl Basin {
         }
     }
 
-    // The mark of a level before the cost is taken off, by how far it is from the target.
+    // The mark of a level before the cost is taken off: 1,000 if it is at most a band off the
+    // target, 500 if at most two, else 0.
     fn grade(&self, level: f64) -> u16
         ensures { λ r. ⌜ r ≡ grade (now (self .entry) .target) (now (self .entry) .band) level ⌝ }
     {
@@ -88,14 +120,13 @@ impl Basin {
         if !self.knows_water(state) {
             return Err(ModelFault::UnknownState { layers: 0 });
         }
-        let place = setting as usize;
-        if place >= self.count {
+        let Some(costed) = self.setting_numbered(setting) else {
             return Err(ModelFault::UnknownSetting { layers: 0 });
-        }
-        let raw = (state.level + state.inflow) - self.settings[place].outflow(state.level);
+        };
+        let raw = costed.setting.raw_level(state);
         let level = self.next_level(raw);
         let inflow = self.next_inflow(state.inflow);
-        let mark = self.grade(level).saturating_sub(self.costs[place]);
+        let mark = self.grade(level).saturating_sub(costed.cost);
         Ok((mark, Water { level, inflow }))
     }
 }
@@ -107,7 +138,7 @@ pub impl Model for Basin as BasinModel {
     ghost meaning = { λ b. basin (parameters b) };
 
     fn settings(&self) -> u8 {
-        self.count as u8
+        self.settings_count()
     }
 
     fn knows(&self, state: WaterBits) -> bool {
