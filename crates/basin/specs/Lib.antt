@@ -1,0 +1,7 @@
+pub mod Bits
+pub mod Faults
+pub mod First
+pub mod Making
+pub mod Numbers
+pub mod Ranges
+pub mod Stepping
