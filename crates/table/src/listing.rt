@@ -5,10 +5,12 @@ use model::Model;
 use std::alloc::AllocError;
 use std::alloc::Global;
 ghost use mathlib.Core.Path.{_≡_};
+ghost use Prim.Native.Nat.{_+_};
+ghost use lib.ListN.{take};
 ghost use Rattle.std.specs.Of.String.{string-bytes};
 ghost use Rattle.std.specs.Of.Vec.{vec-items};
 ghost use Rattle.std.specs.Vec.{made};
-ghost use Rattle.table.specs.Listing.{refused-line, shape-line, record-line, line-at, table-text, Tells};
+ghost use Rattle.table.specs.Listing.{most-bytes, refused-line, shape-line, record-line, line-at, table-text, Tells};
 ghost use Rattle.table.specs.Tables.{file, record-numbered};
 
 // The most bytes of a file that are looked at.
@@ -64,13 +66,20 @@ fn table_text(heap: Global, table: &Table) -> Result<String, AllocError>
     Ok(text)
 }
 
+// The bytes that are looked at: one more than the most, so that a longer file is seen to be too long.
+fn looked_at(file: Vec<u8>) -> Vec<u8>
+    ensures { λ r. ⌜ vec-items r ≡ take (most-bytes + 1) (vec-items file) ⌝ }
+{
+    let mut bytes = file;
+    bytes.truncate(MOST_BYTES + 1);
+    bytes
+}
+
 // What a table file holds, or its refusal, as text. More than 65,536 bytes count as a length of 65,537.
 pub fn listing(heap: Global, file: Vec<u8>) -> Result<String, AllocError>
     ensures { λ r. ⌜ made r (λ s. Tells (vec-items file) (string-bytes s)) ⌝ }
 {
-    let mut bytes = file;
-    bytes.truncate(MOST_BYTES + 1);
-    match Table::read(bytes) {
+    match Table::read(looked_at(file)) {
         Ok(table) => table_text(heap, &table),
         Err(fault) => refused_line(heap, fault.number(), fault.value()),
     }

@@ -22,8 +22,8 @@ const LARGEST_DROP: f64 = 10.0;
 // The greatest cost of a setting.
 const DEAREST: u16 = 500;
 
-// The greatest number of settings.
-const MOST_SETTINGS: usize = 8;
+// The places for settings: a basin has 1 to 8.
+const PLACES: usize = 8;
 
 impl Setting {
     // Whether the drop of a pump, or the share of a gate, is in range.
@@ -63,7 +63,7 @@ fn first_number_out(depth: f64, target: f64, band: f64, fade: f64, count: usize)
     if !within(fade, 0.0, 1.0) {
         return Some(4);
     }
-    if count < 1 || count > MOST_SETTINGS {
+    if count < 1 || count > PLACES {
         return Some(5);
     }
     None

@@ -3,6 +3,8 @@ use crate::tariff::HIGHEST_CHARGE;
 use crate::tariff::HOURS;
 use crate::tariff::Tariff;
 ghost use mathlib.Core.Path.{_≡_};
+ghost use lib.Dec.{leb};
+ghost use Rattle.model.specs.Tariffs.{highest-charge};
 ghost use Rattle.model.specs.TariffMaking.{charge-number, charge-hour, first-dear, Makes};
 
 impl BadCharge {
@@ -21,12 +23,19 @@ impl BadCharge {
     }
 }
 
+// Whether a charge is in range.
+fn fair(charge: u16) -> bool
+    ensures { λ r. ⌜ r ≡ leb charge highest-charge ⌝ }
+{
+    charge <= HIGHEST_CHARGE
+}
+
 // The first hour whose charge is out of range.
 fn first_dear(charges: &[u16; 24]) -> Option<u8>
     ensures { λ r. ⌜ r ≡ first-dear (now (charges .entry)) ⌝ }
 {
     for hour in 0..HOURS {
-        if charges[hour as usize] > HIGHEST_CHARGE {
+        if !fair(charges[hour as usize]) {
             return Some(hour);
         }
     }

@@ -3,8 +3,8 @@ use crate::records::Record;
 use crate::records::Table;
 use crate::records::reading::record;
 ghost use mathlib.Core.Path.{_≡_};
-ghost use Prim.Native.Nat.{_*_};
-ghost use Rattle.table.specs.Tables.{file, record-numbered};
+ghost use Prim.Native.Nat.{_*_, _<_};
+ghost use Rattle.table.specs.Tables.{file, record-of, record-numbered};
 
 impl Table {
     // N, the number of states: known states are 0 to N - 1.
@@ -29,5 +29,14 @@ impl Table {
             return None;
         }
         Some(record(self.bytes.as_slice(), i))
+    }
+
+    // The record of a known state and a setting below K.
+    pub(crate) fn record_of(&self, state: u16, setting: u8) -> Record
+        requires { ⌜ state < now self .states ⌝ ∗ ⌜ setting < now self .settings ⌝ }
+        ensures { λ r. ⌜ r ≡ record-of (file (now (self .entry))) state setting ⌝ }
+    {
+        let i = state as usize * self.settings + setting as usize;
+        record(self.bytes.as_slice(), i)
     }
 }

@@ -1,5 +1,4 @@
 use crate::records::Table;
-use crate::records::reading::record;
 use model::Model;
 use model::ModelFault;
 ghost use mathlib.Core.Path.{_≡_};
@@ -29,10 +28,7 @@ pub impl Model for Table as TableModel {
         if setting >= self.settings() {
             return Err(ModelFault::UnknownSetting { layers: 0 });
         }
-        let found = record(
-            self.bytes.as_slice(),
-            state as usize * self.settings + setting as usize,
-        );
+        let found = self.record_of(state, setting);
         Ok((found.mark, found.next))
     }
 }
