@@ -1,5 +1,4 @@
 pub mod Basins
 pub mod Costed
-pub mod Firsts
 pub mod Floats
 pub mod Makings

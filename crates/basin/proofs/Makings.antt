@@ -10,11 +10,11 @@ use lib.Ieee.{Float, lt, le}
 use Rattle.std.specs.declared.option.Option.{Option}
 use Rattle.std.specs.declared.option.Option.the-variants.{Some, None}
 use Rattle.std.proofs.shelf.Tests.{and-parts, leb-true, or-left, both-ways, false≢true}
-use Rattle.basin.specs.First.{first-false}
+use Rattle.model.specs.First.{first-false}
 use Rattle.basin.specs.Numbers.{zero, hundred}
 use Rattle.basin.specs.Ranges.{Parameters, above-to, ranges}
 use Rattle.basin.specs.Making.{judged, Accepted-if-all-in-range, Refused-at-first-out-of-range}
-use Rattle.basin.proofs.Firsts.{each-passes, found-first}
+use Rattle.model.proofs.Firsts.{each-passes, found-first}
 
 -- what lies above a number is at least that number
 above-le : (low high x : Float) → above-to low high x ≡ true → le low x ≡ true

@@ -1,6 +1,5 @@
 pub mod Bits
 pub mod Faults
-pub mod First
 pub mod Making
 pub mod Numbers
 pub mod Ranges

@@ -11,7 +11,7 @@ use Rattle.std.specs.declared.result.Result.{Result}
 use Rattle.std.specs.declared.result.Result.the-variants.{Ok, Err}
 use Rattle.std.specs.Results.{Cases, isOk}
 use Rattle.basin.specs.Faults.{refusal-8, parameter}
-use Rattle.basin.specs.First.{first-false}
+use Rattle.model.specs.First.{first-false}
 use Rattle.basin.specs.Ranges.{Parameters, ranges, Parameter-in-range}
 use Rattle.basin.specs.declared.fault.BadParameter.{BadParameter}
 use Rattle.basin.specs.declared.metres.Basin.{Basin}

@@ -1,80 +1,68 @@
--- The first of a row of options that is there: step by step, and what its answer says of each.
+-- The first test that fails: step by step over a list, and what it says of each test.
 use mathlib.Core.Path.{_≡_, refl, sym, ap, _∙_}
 use mathlib.Core.Bool.{Bool, true, false}
-use Prim.Native.Nat.{ℕ, zero, suc, _+_, _-_, _≤_, _<_}
+use mathlib.Core.List.{List, [], _∷_, _++_, map}
+use Prim.Native.Nat.{ℕ, zero, suc, _+_, _≤_, _<_}
 use native.Mathlib.Omega.{arith}
+use lib.ListN.{length, getD, drop}
 use Rattle.std.specs.declared.option.Option.{Option}
 use Rattle.std.specs.declared.option.Option.the-variants.{Some, None}
-use Rattle.std.specs.Options.{isSome}
-use Rattle.std.proofs.shelf.Tests.{false≢true}
-use Rattle.model.specs.First.{first-of, or-else}
+use Rattle.std.proofs.shelf.Lists.{at-drop-more, at-drop-all}
+use Rattle.std.proofs.shelf.Tests.{cond-true, cond-false}
+use Rattle.model.specs.First.{first-false}
 
-module _ {A : Type 0} (f : ℕ → Option A) (i n : ℕ) where
-  first-step : i < n → first-of f i (n - i) ≡ or-else (f i) (first-of f (i + 1) (n - (i + 1)))
-  first-step h = let e : n - i ≡ suc (n - (i + 1)) = omega arith in ap (first-of f i) e
+-- a loop that tests one item after the other, the first of which has the number n
+module _ {A : Type 0} (ok : A → Bool) (xs : List A) (n i : ℕ) (d : A) where
+  pub first-more : i < length xs → ok (getD xs i d) ≡ true → first-false (n + (i + 1)) (map ok (drop (i + 1) xs)) ≡ first-false (n + i) (map ok (drop i xs))
+  first-more h e =
+      let k : n + (i + 1) ≡ n + i + 1 = omega arith in
+      ap (λ (k : ℕ). first-false k (map ok (drop (i + 1) xs))) k
+      ∙ sym (at-drop-more (λ ys. first-false (n + i) (map ok ys)) xs i d h ∙ cond-true (ok (getD xs i d)) (first-false (n + i + 1) (map ok (drop (i + 1) xs))) (Some (n + i)) e)
 
-  -- where none is left, none is found
-  pub first-ends : n ≤ i → None ≡ first-of f i (n - i)
-  first-ends h = let e : n - i ≡ 0 = omega arith in sym (ap (first-of f i) e)
+  pub first-found : i < length xs → ok (getD xs i d) ≡ false → first-false (n + i) (map ok (drop i xs)) ≡ Some (n + i)
+  first-found h e =
+      at-drop-more (λ ys. first-false (n + i) (map ok ys)) xs i d h
+      ∙ cond-false (ok (getD xs i d)) (first-false (n + i + 1) (map ok (drop (i + 1) xs))) (Some (n + i)) e
 
-or-else-some : {A : Type 0} (o p : Option A) → isSome o ≡ true → or-else o p ≡ o
-or-else-some (Some x) p e = refl
-or-else-some None p e = absurd (false≢true e)
+  pub first-none : length xs ≤ i → first-false (n + i) (map ok (drop i xs)) ≡ None
+  first-none h = at-drop-all (λ ys. first-false (n + i) (map ok ys)) xs i h
 
-or-else-none : {A : Type 0} (o p : Option A) → isSome o ≡ false → or-else o p ≡ p
-or-else-none (Some x) p e = absurd (false≢true (sym e))
-or-else-none None p e = refl
+-- of two lists one behind the other, the first failure in front decides, and where there is none that behind
+pub first-in-front : (n : ℕ) (fs bs : List Bool) (k : ℕ) → Some k ≡ first-false n fs → Some k ≡ first-false n (fs ++ bs)
+first-in-front n [] bs k e = let z : _≡_ {A = ℕ} 0 1 = cc in let f : ⊥ = omega arith in absurd f
+first-in-front n (true ∷ fs) bs k e = first-in-front (n + 1) fs bs k e
+first-in-front n (false ∷ fs) bs k e = e
 
-module _ {A : Type 0} (f : ℕ → Option A) (i n : ℕ) (o : Option A) (is : o ≡ f i) (h : i < n) where
-  -- where the one at i is there, it is the first of what is left
-  pub first-here : true ≡ isSome o → o ≡ first-of f i (n - i)
-  first-here e = is ∙ sym (first-step f i n h ∙ or-else-some (f i) _ (ap isSome (sym is) ∙ sym e))
+pub first-behind : (n : ℕ) (fs bs : List Bool) (o : Option ℕ) → None ≡ first-false n fs → o ≡ first-false (n + length fs) bs → o ≡ first-false n (fs ++ bs)
+first-behind n [] bs o e b = let same : n + 0 ≡ n = omega arith in b ∙ ap (λ (k : ℕ). first-false k bs) same
+first-behind n (true ∷ fs) bs o e b =
+    let same : n + suc (length fs) ≡ n + 1 + length fs = omega arith in
+    first-behind (n + 1) fs bs o e (b ∙ ap (λ (k : ℕ). first-false k bs) same)
+first-behind n (false ∷ fs) bs o e b = let z : _≡_ {A = ℕ} 0 1 = cc in let f : ⊥ = omega arith in absurd f
 
-  -- where it is not, the first is further on
-  pub first-later : false ≡ isSome o → first-of f (i + 1) (n - (i + 1)) ≡ first-of f i (n - i)
-  first-later e = sym (first-step f i n h ∙ or-else-none (f i) _ (ap isSome (sym is) ∙ sym e))
+-- where none fails, each passes
+pub each-passes : (n : ℕ) (bs : List Bool) → first-false n bs ≡ None → (i : ℕ) → getD bs i true ≡ true
+each-passes n [] e i = refl
+each-passes n (true ∷ bs) e zero = refl
+each-passes n (true ∷ bs) e (suc i) = each-passes (n + 1) bs e i
+each-passes n (false ∷ bs) e i = let z : _≡_ {A = ℕ} 0 1 = cc in let f : ⊥ = omega arith in absurd f
 
-neither : {A : Type 0} (o p : Option A) → or-else o p ≡ None → (o ≡ None) × (p ≡ None)
-neither (Some x) p e = let z : _≡_ {A = ℕ} 0 1 = cc in let f : ⊥ = omega arith in absurd f
-neither None p e = (refl, e)
+-- the test at this place of the list fails, and each before it passes
+pub record First (bs : List Bool) (place : ℕ) : Type 0 where
+  pub inside : place < length bs
+  pub fails : getD bs place true ≡ false
+  pub before : (i : ℕ) → i < place → getD bs i true ≡ true
 
--- where none is found, there is none
-pub none-there : {A : Type 0} (f : ℕ → Option A) (a n : ℕ) → first-of f a n ≡ None → (j : ℕ) → j < n → f (a + j) ≡ None
-none-there f a zero e j h = let x : ⊥ = omega arith in absurd x
-none-there f a (suc n) e zero h = let z : a + 0 ≡ a = omega arith in ap f z ∙ neither (f a) (first-of f (a + 1) n) e .0
-none-there f a (suc n) e (suc j) h =
-    let z : a + suc j ≡ a + 1 + j = omega arith in
-    let l : j < n = omega arith in
-    ap f z ∙ none-there f (a + 1) n (neither (f a) (first-of f (a + 1) n) e .1) j l
+sooner : (bs : List Bool) (j : ℕ) → ((i : ℕ) → i < j → getD bs i true ≡ true) → (i : ℕ) → i < suc j → getD (true ∷ bs) i true ≡ true
+sooner bs j before zero h = refl
+sooner bs j before (suc i) h = before i (omega arith)
 
--- what was found is at some place, and nothing before it
-pub record Found {A : Type 0} (f : ℕ → Option A) (a n : ℕ) (x : A) : Type 0 where
-  pub place : ℕ
-  pub within : place < n
-  pub there : f (a + place) ≡ Some x
-  pub before : (j : ℕ) → j < place → f (a + j) ≡ None
-
-further : {A : Type 0} (f : ℕ → Option A) (a n : ℕ) (x : A) → f a ≡ None → Found f (a + 1) n x → Found f a (suc n) x
-further {A} f a n x none found =
-    record {
-      place = suc (found .place);
-      within = omega (arith, found .within);
-      there = let z : a + suc (found .place) ≡ a + 1 + found .place = omega arith in ap f z ∙ found .there;
-      before = earlier;
-    }
-  where
-    earlier : (j : ℕ) → j < suc (found .place) → f (a + j) ≡ None
-    earlier zero h = let z : a + 0 ≡ a = omega arith in ap f z ∙ none
-    earlier (suc j) h =
-        let z : a + suc j ≡ a + 1 + j = omega arith in
-        let l : j < found .place = omega arith in
-        ap f z ∙ found .before j l
-
-found-by : {A : Type 0} (f : ℕ → Option A) (a n : ℕ) (x : A) (o : Option A) → f a ≡ o → or-else o (first-of f (a + 1) n) ≡ Some x → (first-of f (a + 1) n ≡ Some x → Found f (a + 1) n x) → Found f a (suc n) x
-found-by f a n x (Some y) is same rest =
-    record { place = 0; within = omega arith; there = (let z : a + 0 ≡ a = omega arith in ap f z ∙ is ∙ same); before = λ j h. let b : ⊥ = omega arith in absurd b }
-found-by f a n x None is later rest = further f a n x is (rest later)
-
-pub found-there : {A : Type 0} (f : ℕ → Option A) (a n : ℕ) (x : A) → first-of f a n ≡ Some x → Found f a n x
-found-there f a zero x e = let z : _≡_ {A = ℕ} 0 1 = cc in let b : ⊥ = omega arith in absurd b
-found-there f a (suc n) x e = found-by f a n x (f a) refl e (found-there f (a + 1) n x)
+-- what is found is the first that fails
+pub found-first : (n : ℕ) (bs : List Bool) (k : ℕ) → first-false n bs ≡ Some k → (j : ℕ) × (k ≡ n + j) × First bs j
+found-first n [] k e = let z : _≡_ {A = ℕ} 0 1 = cc in let f : ⊥ = omega arith in absurd f
+found-first n (false ∷ bs) k e =
+    let same : n ≡ k = cc in
+    (0, omega arith, record { inside = omega arith; fails = refl; before = λ i h. let f : ⊥ = omega arith in absurd f })
+found-first n (true ∷ bs) k e =
+    let (j, is, first) = found-first (n + 1) bs k e in
+    (suc j, omega arith, record { inside = omega (arith, first .inside); fails = first .fails; before = sooner bs j (first .before) })

@@ -1,17 +1,17 @@
 -- When the charges of a tariff are in range.
 use mathlib.Core.Path.{_≡_}
-use mathlib.Core.Bool.{true, cond}
-use mathlib.Core.List.{List}
+use mathlib.Core.Bool.{Bool, true}
+use mathlib.Core.List.{List, map}
 use Prim.Native.Nat.{ℕ, _≤_, _<_}
 use lib.Dec.{leb}
-use lib.ListN.{getD}
+use lib.ListN.{length, getD}
 use Rattle.std.specs.Results.{Cases, isOk}
 use Rattle.std.specs.declared.option.Option.{Option}
 use Rattle.std.specs.declared.option.Option.the-variants.{Some, None}
 use Rattle.std.specs.declared.result.Result.{Result}
 use Rattle.std.specs.declared.result.Result.the-variants.{Ok, Err}
-use Rattle.model.specs.First.{first-of}
-use Rattle.model.specs.Tariffs.{hours, highest-charge}
+use Rattle.model.specs.First.{first-false}
+use Rattle.model.specs.Tariffs.{highest-charge}
 use Rattle.model.specs.declared.tariff.BadCharge.{BadCharge}
 use Rattle.model.specs.declared.tariff.Tariff.{Tariff}
 
@@ -26,12 +26,12 @@ charge-hour f = f .hour
 abbrev pub Fair : List ℕ → ℕ → Type 0
 Fair charges hour = getD charges hour 0 ≤ highest-charge
 
--- what is wrong with the charge of an hour
-abbrev pub dear : List ℕ → ℕ → Option ℕ
-dear charges hour = cond (leb (getD charges hour 0) highest-charge) None (Some hour)
+abbrev pub fair : ℕ → Bool
+fair charge = leb charge highest-charge
 
+-- the first hour whose charge is out of range
 abbrev pub first-dear : List ℕ → Option ℕ
-first-dear charges = first-of (dear charges) 0 hours
+first-dear charges = first-false 0 (map fair charges)
 
 abbrev pub unless-dear : {A : Type 0} → Option ℕ → A → Result A BadCharge
 unless-dear (Some hour) x = Err (record { hour = hour })
@@ -51,7 +51,7 @@ pub record Makes {M : Type 0} (charges : List ℕ) (m : M) (r : Result (Tariff M
   -- a tariff with these charges over this model, or the refusal
   pub value : parts r ≡ made-tariff charges m
   -- it is made if and only if every charge is in range
-  pub made-if-fair : ((h : ℕ) → h < hours → Fair charges h) → isOk r ≡ true
-  pub fair-if-made : isOk r ≡ true → (h : ℕ) → h < hours → Fair charges h
+  pub made-if-fair : ((h : ℕ) → h < length charges → Fair charges h) → isOk r ≡ true
+  pub fair-if-made : isOk r ≡ true → (h : ℕ) → h < length charges → Fair charges h
   -- refusal 9 comes with the first hour whose charge is out of range
-  pub refused-at-first : Cases r (λ _. Unit {0}) (λ f. (charge-number f ≡ 9) × (charge-hour f < hours) × (Fair charges (charge-hour f) → ⊥) × ((h : ℕ) → h < charge-hour f → Fair charges h))
+  pub refused-at-first : Cases r (λ _. Unit {0}) (λ f. (charge-number f ≡ 9) × (charge-hour f < length charges) × (Fair charges (charge-hour f) → ⊥) × ((h : ℕ) → h < charge-hour f → Fair charges h))

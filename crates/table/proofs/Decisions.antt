@@ -15,18 +15,17 @@ use Rattle.std.specs.declared.result.Result.the-variants.{Ok, Err}
 use Rattle.std.specs.Results.{isOk}
 use Rattle.std.proofs.shelf.Bits.{div-below, mod-below}
 use Rattle.std.proofs.shelf.Tests.{ltb-true, ltb-false, leb-true, leb-false, eqb-true, eqb-false, lt-ltb, le-leb, eq-eqb, and-parts, and-from, both-ways, false≢true, cond-true}
-use Rattle.model.specs.First.{first-of}
 use Rattle.model.specs.Meaning.{step, highest-mark}
 use Rattle.model.proofs.Walks.{step-granted}
 use Rattle.table.specs.Faults.{number, value as value-of, refusal}
 use Rattle.table.specs.Layout.{record-bytes, record-at, count, last, states, settings}
 use Rattle.table.specs.Rules.{Whole-records, Complete, In-order, Next-known, Mark-in-range, Sound-record, Obeys-rules, Record-breaks, First-broken}
-use Rattle.table.specs.Reading.{File, whole, complete, record-fault, unless, shape, checked, with-bytes, read}
+use Rattle.table.specs.Reading.{File, whole, complete, record-fault, first-of, unless, shape, checked, with-bytes, read}
 use Rattle.table.specs.Tables.{file, file-read, table, Steps-as-recorded, Reads}
 use Rattle.table.specs.declared.fault.TableFault.{TableFault}
 use Rattle.table.specs.declared.records.reading.Shape.{Shape}
 use Rattle.table.specs.declared.records.Table.{Table}
-use Rattle.model.proofs.Firsts.{none-there, Found, found-there}
+use Rattle.table.proofs.Firsts.{none-there, Found, found-there}
 
 -- one record
 

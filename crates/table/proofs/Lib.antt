@@ -1,3 +1,4 @@
+pub mod Firsts
 pub mod Decisions
 pub mod Lawful
 pub mod Lines

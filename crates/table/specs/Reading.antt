@@ -1,14 +1,13 @@
 -- Reading a table file: what it holds, or its refusal.
 use mathlib.Core.Bool.{Bool, cond, _&&_}
 use mathlib.Core.List.{List}
-use Prim.Native.Nat.{ℕ, _*_, _/_, _%_}
+use Prim.Native.Nat.{ℕ, zero, suc, _+_, _*_, _/_, _%_}
 use lib.Dec.{ltb, leb, eqb}
 use lib.ListN.{length}
 use Rattle.std.specs.declared.option.Option.{Option}
 use Rattle.std.specs.declared.option.Option.the-variants.{Some, None}
 use Rattle.std.specs.declared.result.Result.{Result}
 use Rattle.std.specs.declared.result.Result.the-variants.{Ok, Err}
-use Rattle.model.specs.First.{first-of}
 use Rattle.model.specs.Meaning.{most-settings, highest-mark}
 use Rattle.table.specs.Faults.{refusal}
 use Rattle.table.specs.Layout.{record-bytes, record-at, count, last, states, settings}
@@ -35,6 +34,15 @@ record-fault bs n k i =
     (cond (leb (record-at bs i .mark) highest-mark) None (Some (refusal 7 i)))
     (Some (refusal 6 i)))
     (Some (refusal 5 i))
+
+abbrev pub or-else : {A : Type 0} → Option A → Option A → Option A
+or-else (Some x) o = Some x
+or-else None o = o
+
+-- the first of f i, f (i + 1), .. that is there, of n in all
+abbrev pub first-of : {A : Type 0} → (ℕ → Option A) → ℕ → ℕ → Option A
+first-of f i zero = None
+first-of f i (suc n) = or-else (f i) (first-of f (i + 1) n)
 
 abbrev pub unless : {A : Type 0} → Option TableFault → A → Result A TableFault
 unless (Some e) x = Err e

@@ -9,7 +9,7 @@ ghost use mathlib.Core.List.{map};
 ghost use Prim.Native.Nat.{_≤_};
 ghost use lib.ListN.{length, take};
 ghost use Rattle.std.specs.declared.option.Option.the-variants.{None};
-ghost use Rattle.basin.specs.First.{first-false};
+ghost use Rattle.model.specs.First.{first-false};
 ghost use Rattle.basin.specs.Ranges.{ranges, number-ranges, strength-in-range, setting-in-range, setting-of, cost-of};
 ghost use Rattle.basin.specs.Making.{given-parameters, parameters, viewed, judged, made, Accepted-if-all-in-range, Refused-at-first-out-of-range};
 

@@ -3,9 +3,7 @@ use crate::tariff::HIGHEST_CHARGE;
 use crate::tariff::HOURS;
 use crate::tariff::Tariff;
 ghost use mathlib.Core.Path.{_≡_};
-ghost use lib.Dec.{leb};
-ghost use Rattle.model.specs.Tariffs.{highest-charge};
-ghost use Rattle.model.specs.TariffMaking.{charge-number, charge-hour, first-dear, Makes};
+ghost use Rattle.model.specs.TariffMaking.{charge-number, charge-hour, fair, first-dear, Makes};
 
 impl BadCharge {
     // The number of the refusal, 9.
@@ -25,7 +23,7 @@ impl BadCharge {
 
 // Whether a charge is in range.
 fn fair(charge: u16) -> bool
-    ensures { λ r. ⌜ r ≡ leb charge highest-charge ⌝ }
+    ensures { λ r. ⌜ r ≡ fair charge ⌝ }
 {
     charge <= HIGHEST_CHARGE
 }

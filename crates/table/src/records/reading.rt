@@ -8,9 +8,8 @@ ghost use mathlib.Core.Path.{_≡_};
 ghost use Prim.Native.Nat.{_+_, _*_, _<_, _≤_};
 ghost use lib.ListN.{length};
 ghost use Rattle.std.specs.Of.Vec.{vec-items};
-ghost use Rattle.model.specs.First.{first-of};
 ghost use Rattle.table.specs.Layout.{record-bytes, word as two-bytes, record-at};
-ghost use Rattle.table.specs.Reading.{record-fault, checked};
+ghost use Rattle.table.specs.Reading.{record-fault, first-of, checked};
 ghost use Rattle.table.specs.Tables.{Reads};
 
 // The numbers of states and settings.

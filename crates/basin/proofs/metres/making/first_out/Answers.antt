@@ -2,7 +2,7 @@ use mathlib.Core.List.{map}
 use lib.ListN.{length}
 use Rattle.basin.specs.Making.{given-parameters}
 use Rattle.basin.specs.Ranges.{number-ranges, setting-in-range}
-use Rattle.basin.proofs.Firsts.{first-in-front, first-behind}
+use Rattle.model.proofs.Firsts.{first-in-front, first-behind}
 use Rattle.basin.proofs.Makings.{accepted, refused}
 use Rattle.basin.proofs.metres.making.first_out.Needs as need
 

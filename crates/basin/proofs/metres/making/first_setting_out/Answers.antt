@@ -2,7 +2,7 @@ use mathlib.Core.Path.{sym, _∙_}
 use Rattle.basin.specs.Ranges.{setting-in-range}
 use Rattle.basin.specs.declared.metres.CostedSetting.{CostedSetting}
 use Rattle.basin.specs.declared.metres.Setting.the-variants.{Rest}
-use Rattle.basin.proofs.Firsts.{first-more, first-found, first-none}
+use Rattle.model.proofs.Firsts.{first-more, first-found, first-none}
 use Rattle.basin.proofs.metres.making.first_setting_out.Needs as need
 
 abbrev rest : CostedSetting

@@ -2,7 +2,7 @@ use mathlib.Core.Path.{_≡_}
 use mathlib.Core.List.{map}
 use Prim.Native.Nat.{_+_}
 use lib.ListN.{drop}
-use Rattle.basin.specs.First.{first-false}
+use Rattle.model.specs.First.{first-false}
 use Rattle.basin.specs.Ranges.{setting-in-range}
 use Rattle.basin.proofs.metres.making.first_setting_out.Given as given
 

@@ -4,7 +4,7 @@ use Rattle.model.proofs.Charges.{all-fair, makes}
 use Rattle.model.proofs.tariff.Tariff.new.Needs as need
 
 pub ghost-result : need.ghost-result
-ghost-result g c = (all-fair (c .args .charges) (sym (c .in-None .ensures tt)), tt)
+ghost-result g c = (λ h _. all-fair (c .args .charges) (sym (c .in-None .ensures tt)) h, tt)
 
 pub returns-in-Some : need.returns-in-Some
 returns-in-Some g c = makes (c .args .charges) (c .args .model) _ (ap (λ o. unless-dear o (c .args .charges, c .args .model)) (c .in-Some .ensures tt))

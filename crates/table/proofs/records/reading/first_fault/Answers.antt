@@ -1,6 +1,6 @@
 use mathlib.Core.Path.{_≡_, sym, _∙_}
 use Rattle.table.specs.Reading.{record-fault}
-use Rattle.model.proofs.Firsts.{first-here, first-later}
+use Rattle.table.proofs.Firsts.{first-here, first-later}
 use Rattle.table.proofs.records.reading.first_fault.Needs as need
 
 pub returns-then-is-some : need.returns-then-is-some

@@ -1,7 +1,6 @@
 use mathlib.Core.Path.{_≡_}
 use Prim.Native.Nat.{_-_}
-use Rattle.model.specs.First.{first-of}
-use Rattle.table.specs.Reading.{record-fault}
+use Rattle.table.specs.Reading.{first-of, record-fault}
 use Rattle.table.proofs.records.reading.first_fault.Given as given
 
 abbrev pub Inv-loop-i : given.InvT-loop-i
