@@ -100,30 +100,20 @@ fn first_out(
     }
 }
 
-// The settings without their costs, and rest in the places behind them.
-fn eight_settings(given: &[CostedSetting]) -> [Setting; 8]
+// The settings and their costs, each in eight places; rest and 0 stand in the places behind them.
+fn eight_places(given: &[CostedSetting]) -> ([Setting; 8], [u16; 8])
     requires { ⌜ length (now given) ≤ 8 ⌝ }
-    ensures front { λ r. ⌜ take (length (now (given .entry))) r ≡ map setting-of (now (given .entry)) ⌝ }
-    ensures eight { λ r. ⌜ length r ≡ 8 ⌝ }
+    ensures settings { λ r. ⌜ take (length (now (given .entry))) (r .0) ≡ map setting-of (now (given .entry)) ⌝ }
+    ensures costs { λ r. ⌜ take (length (now (given .entry))) (r .1) ≡ map cost-of (now (given .entry)) ⌝ }
+    ensures eight { λ r. ⌜ (length (r .0) ≡ 8) × (length (r .1) ≡ 8) ⌝ }
 {
-    let mut all = [Setting::Rest; 8];
+    let mut settings = [Setting::Rest; 8];
+    let mut costs = [0; 8];
     for (i, costed) in given.iter().enumerate() {
-        all[i] = costed.setting;
+        settings[i] = costed.setting;
+        costs[i] = costed.cost;
     }
-    all
-}
-
-// The costs of the settings, and 0 in the places behind them.
-fn eight_costs(given: &[CostedSetting]) -> [u16; 8]
-    requires { ⌜ length (now given) ≤ 8 ⌝ }
-    ensures front { λ r. ⌜ take (length (now (given .entry))) r ≡ map cost-of (now (given .entry)) ⌝ }
-    ensures eight { λ r. ⌜ length r ≡ 8 ⌝ }
-{
-    let mut all = [0; 8];
-    for (i, costed) in given.iter().enumerate() {
-        all[i] = costed.cost;
-    }
-    all
+    (settings, costs)
 }
 
 impl Basin {
@@ -138,14 +128,15 @@ impl Basin {
         requires { ⌜ first-false 1 (ranges (given-parameters depth target band fade (now settings))) ≡ None ⌝ }
         ensures { λ r. ⌜ parameters r ≡ given-parameters depth target band fade (now (settings .entry)) ⌝ }
     {
+        let (all_settings, all_costs) = eight_places(settings);
         Basin {
             depth,
             target,
             band,
             fade,
             count: settings.len(),
-            settings: eight_settings(settings),
-            costs: eight_costs(settings),
+            settings: all_settings,
+            costs: all_costs,
         }
     }
 
