@@ -4,21 +4,21 @@ use model::ModelFault;
 use model::WalkFault;
 use model::fault::ModelFaultDebug;
 use model::fault::ModelFaultPartialEq;
+use model::walk;
 use model::walking::WalkFaultDebug;
 use model::walking::WalkFaultPartialEq;
-use model::walking::walk;
 use std::alloc::AllocError;
 use std::alloc::Global;
 use std::test::*;
 use table::Record;
 use table::Table;
 use table::TableFault;
+use table::TableModel;
 use table::fault::TableFaultDebug;
 use table::fault::TableFaultPartialEq;
 use table::listing::listing;
 use table::records::RecordDebug;
 use table::records::RecordPartialEq;
-use table::records::stepping::TableModel;
 
 // A record as state, setting, next state and mark.
 type Words = [u16; 4];
@@ -31,7 +31,7 @@ const POND: [Words; 4] = [
 ];
 
 // The bytes of a file with these records.
-pub fn file_of(heap: Global, records: &[Words]) -> Result<Vec<u8>, AllocError> {
+pub(crate) fn file_of(heap: Global, records: &[Words]) -> Result<Vec<u8>, AllocError> {
     let mut bytes = Vec::new(heap);
     for words in records {
         for word in words {

@@ -3,15 +3,14 @@ use crate::tables::file_of;
 use model::Model;
 use model::ModelFault;
 use model::Tariff;
+use model::TariffModel;
 use model::fault::ModelFaultDebug;
 use model::fault::ModelFaultPartialEq;
-use model::tariff::BadCharge;
-use model::tariff::stepping::TariffModel;
 use std::alloc::AllocError;
 use std::alloc::Global;
 use std::test::*;
 use table::Table;
-use table::records::stepping::TableModel;
+use table::TableModel;
 
 // A table of one state and two settings, which earn 200 and 500.
 fn shed(heap: Global) -> Result<Table, Fail> {

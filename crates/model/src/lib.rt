@@ -8,5 +8,8 @@ pub use fault::ModelFault;
 pub use questions::HIGHEST_MARK;
 pub use questions::MOST_SETTINGS;
 pub use questions::Model;
+pub use tariff::BadCharge;
 pub use tariff::Tariff;
+pub use tariff::stepping::TariffModel;
 pub use walking::WalkFault;
+pub use walking::walk;

@@ -6,3 +6,4 @@ pub mod records;
 pub use fault::TableFault;
 pub use records::Record;
 pub use records::Table;
+pub use records::stepping::TableModel;
