@@ -13,15 +13,15 @@ use table::Table;
 use table::TableModel;
 
 // A table of one state and two settings, which earn 200 and 500.
-fn shed(heap: Global) -> Result<Table, Fail> {
+fn one_state(heap: Global) -> Result<Table, Fail> {
     match Table::read(file_of(heap, &[[0, 0, 0, 200], [0, 1, 0, 500]])?) {
         Ok(table) => Ok(table),
-        Err(_) => Err(Fail::new("the shed is refused")),
+        Err(_) => Err(Fail::new("the table is refused")),
     }
 }
 
 // Charges of 300, but 600 for the hour 23.
-fn dear_evening() -> [u16; 24] {
+fn charges_of_300_but_600_at_23() -> [u16; 24] {
     let mut charges = [300; 24];
     charges[23] = 600;
     charges
@@ -33,7 +33,7 @@ fn the_first_high_charge_is_refused(rt: LibcRuntime) -> Result<(), Fail> {
     check(Tariff::new(charges, 0u8).is_ok())?;
     charges[5] = 1001;
     charges[4] = 1001;
-    match Tariff::new(charges, shed(rt.alloc())?) {
+    match Tariff::new(charges, one_state(rt.alloc())?) {
         Ok(_) => Err(Fail::new("a charge of 1,001 is accepted")),
         Err(fault) => {
             check_eq(fault.number(), 9)?;
@@ -44,7 +44,7 @@ fn the_first_high_charge_is_refused(rt: LibcRuntime) -> Result<(), Fail> {
 
 #[test]
 fn every_setting_but_0_is_charged(rt: LibcRuntime) -> Result<(), Fail> {
-    let Ok(tariff) = Tariff::new(dear_evening(), shed(rt.alloc())?) else {
+    let Ok(tariff) = Tariff::new(charges_of_300_but_600_at_23(), one_state(rt.alloc())?) else {
         return Err(Fail::new("the charges are refused"));
     };
     check_eq(tariff.settings(), 2)?;
@@ -57,7 +57,7 @@ fn every_setting_but_0_is_charged(rt: LibcRuntime) -> Result<(), Fail> {
 
 #[test]
 fn the_hour_is_checked_first(rt: LibcRuntime) -> Result<(), Fail> {
-    let Ok(tariff) = Tariff::new(dear_evening(), shed(rt.alloc())?) else {
+    let Ok(tariff) = Tariff::new(charges_of_300_but_600_at_23(), one_state(rt.alloc())?) else {
         return Err(Fail::new("the charges are refused"));
     };
     check_eq(
@@ -81,10 +81,10 @@ fn the_hour_is_checked_first(rt: LibcRuntime) -> Result<(), Fail> {
 
 #[test]
 fn a_tariff_over_a_tariff_adds_a_layer(rt: LibcRuntime) -> Result<(), Fail> {
-    let Ok(inner) = Tariff::new([100; 24], shed(rt.alloc())?) else {
+    let Ok(inner) = Tariff::new([100; 24], one_state(rt.alloc())?) else {
         return Err(Fail::new("the charges are refused"));
     };
-    let Ok(outer) = Tariff::new(dear_evening(), inner) else {
+    let Ok(outer) = Tariff::new(charges_of_300_but_600_at_23(), inner) else {
         return Err(Fail::new("the charges are refused"));
     };
     check_eq(outer.step((22, (23, 0)), 1), Ok((100, (23, (0, 0)))))?;

@@ -23,23 +23,23 @@ abbrev pub charge-hour : BadCharge → ℕ
 charge-hour f = f .hour
 
 -- a charge is in range up to 1,000
-abbrev pub Fair : List ℕ → ℕ → Type 0
-Fair charges hour = getD charges hour 0 ≤ highest-charge
+abbrev pub Charge-in-range : List ℕ → ℕ → Type 0
+Charge-in-range charges hour = getD charges hour 0 ≤ highest-charge
 
-abbrev pub fair : ℕ → Bool
-fair charge = leb charge highest-charge
+abbrev pub charge-in-range : ℕ → Bool
+charge-in-range charge = leb charge highest-charge
 
 -- the first hour whose charge is out of range
-abbrev pub first-dear : List ℕ → Option ℕ
-first-dear charges = first-false 0 (map fair charges)
+abbrev pub first-high-charge : List ℕ → Option ℕ
+first-high-charge charges = first-false 0 (map charge-in-range charges)
 
-abbrev pub unless-dear : {A : Type 0} → Option ℕ → A → Result A BadCharge
-unless-dear (Some hour) x = Err (record { hour = hour })
-unless-dear None x = Ok x
+abbrev pub refused-at : {A : Type 0} → Option ℕ → A → Result A BadCharge
+refused-at (Some hour) x = Err (record { hour = hour })
+refused-at None x = Ok x
 
 -- the charges with the model, or the refusal of the first charge above 1,000
 abbrev pub made-tariff : {M : Type 0} → List ℕ → M → Result (List ℕ × M) BadCharge
-made-tariff charges m = unless-dear (first-dear charges) (charges, m)
+made-tariff charges m = refused-at (first-high-charge charges) (charges, m)
 
 -- the charges and the model that a tariff was made with
 abbrev pub parts : {M : Type 0} → Result (Tariff M) BadCharge → Result (List ℕ × M) BadCharge
@@ -51,7 +51,7 @@ pub record Makes {M : Type 0} (charges : List ℕ) (m : M) (r : Result (Tariff M
   -- a tariff with these charges over this model, or the refusal
   pub value : parts r ≡ made-tariff charges m
   -- it is made if and only if every charge is in range
-  pub made-if-fair : ((h : ℕ) → h < length charges → Fair charges h) → isOk r ≡ true
-  pub fair-if-made : isOk r ≡ true → (h : ℕ) → h < length charges → Fair charges h
+  pub made-if-in-range : ((h : ℕ) → h < length charges → Charge-in-range charges h) → isOk r ≡ true
+  pub in-range-if-made : isOk r ≡ true → (h : ℕ) → h < length charges → Charge-in-range charges h
   -- refusal 9 comes with the first hour whose charge is out of range
-  pub refused-at-first : Cases r (λ _. Unit {0}) (λ f. (charge-number f ≡ 9) × (charge-hour f < length charges) × (Fair charges (charge-hour f) → ⊥) × ((h : ℕ) → h < charge-hour f → Fair charges h))
+  pub refused-at-first : Cases r (λ _. Unit {0}) (λ f. (charge-number f ≡ 9) × (charge-hour f < length charges) × (Charge-in-range charges (charge-hour f) → ⊥) × ((h : ℕ) → h < charge-hour f → Charge-in-range charges h))

@@ -23,5 +23,5 @@ pub struct Tariff<M> {
     // what each hour takes off the mark of every setting but 0
     charges: [u16; 24],
     model: M,
-    ghost fair: { (h : ℕ) → h < 24 → getD charges h 0 ≤ 1000 },
+    ghost charges_in_range: { (h : ℕ) → h < 24 → getD charges h 0 ≤ 1000 },
 }

@@ -20,7 +20,7 @@ const DEEPEST: f64 = 100.0;
 const LARGEST_DROP: f64 = 10.0;
 
 // The greatest cost of a setting.
-const DEAREST: u16 = 500;
+const HIGHEST_COST: u16 = 500;
 
 // The places for settings: a basin has 1 to 8.
 const PLACES: usize = 8;
@@ -43,7 +43,7 @@ impl CostedSetting {
     fn in_range(self) -> bool
         ensures { λ r. ⌜ r ≡ setting-in-range self ⌝ }
     {
-        self.setting.in_range() && self.cost <= DEAREST
+        self.setting.in_range() && self.cost <= HIGHEST_COST
     }
 }
 

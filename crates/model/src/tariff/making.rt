@@ -3,7 +3,7 @@ use crate::tariff::HIGHEST_CHARGE;
 use crate::tariff::HOURS;
 use crate::tariff::Tariff;
 ghost use mathlib.Core.Path.{_≡_};
-ghost use Rattle.model.specs.TariffMaking.{charge-number, charge-hour, fair, first-dear, Makes};
+ghost use Rattle.model.specs.TariffMaking.{charge-number, charge-hour, charge-in-range, first-high-charge, Makes};
 
 impl BadCharge {
     // The number of the refusal, 9.
@@ -22,18 +22,18 @@ impl BadCharge {
 }
 
 // Whether a charge is in range.
-fn fair(charge: u16) -> bool
-    ensures { λ r. ⌜ r ≡ fair charge ⌝ }
+fn in_range(charge: u16) -> bool
+    ensures { λ r. ⌜ r ≡ charge-in-range charge ⌝ }
 {
     charge <= HIGHEST_CHARGE
 }
 
 // The first hour whose charge is out of range.
-fn first_dear(charges: &[u16; 24]) -> Option<u8>
-    ensures { λ r. ⌜ r ≡ first-dear (now (charges .entry)) ⌝ }
+fn first_high_charge(charges: &[u16; 24]) -> Option<u8>
+    ensures { λ r. ⌜ r ≡ first-high-charge (now (charges .entry)) ⌝ }
 {
     for hour in 0..HOURS {
-        if !fair(charges[hour as usize]) {
+        if !in_range(charges[hour as usize]) {
             return Some(hour);
         }
     }
@@ -45,7 +45,7 @@ impl<M: Drop> Tariff<M> {
     pub fn new(charges: [u16; 24], model: M) -> Result<Tariff<M>, BadCharge>
         ensures { λ r. ⌜ Makes charges model r ⌝ }
     {
-        match first_dear(&charges) {
+        match first_high_charge(&charges) {
             Some(hour) => Err(BadCharge { hour }),
             None => Ok(Tariff { charges, model }),
         }
