@@ -1,7 +1,7 @@
 -- What is told of a table file: a line with N and K and a line for each record, or its refusal.
 use mathlib.Core.Path.{_≡_}
 use mathlib.Core.List.{List, [], _++_}
-use Prim.Native.Nat.{ℕ, zero, suc, _+_, _*_, _≤_, _<_}
+use Prim.Native.Nat.{ℕ, zero, suc, _+_, _≤_, _<_}
 use lib.Chars.{codes}
 use lib.ListN.{length, take}
 use Rattle.std.specs.Written.{decimal}
@@ -12,6 +12,7 @@ use Rattle.std.specs.declared.result.Result.the-variants.{Ok, Err}
 use Rattle.table.specs.Faults.{number, value}
 use Rattle.table.specs.Layout.{record-at, states, settings}
 use Rattle.table.specs.Reading.{File, read}
+use Rattle.table.specs.Tables.{record-count}
 use Rattle.table.specs.Rules.{Obeys-rules, First-broken}
 use Rattle.table.specs.declared.fault.TableFault.{TableFault}
 use Rattle.table.specs.declared.records.Record.{Record}
@@ -44,7 +45,7 @@ record-lines bs zero = []
 record-lines bs (suc n) = record-lines bs n ++ record-line (record-at bs n)
 
 abbrev pub table-text : File → List ℕ
-table-text f = shape-line (f .states) (f .settings) ++ record-lines (f .bytes) (f .states * f .settings)
+table-text f = shape-line (f .states) (f .settings) ++ record-lines (f .bytes) (record-count f)
 
 abbrev pub read-text : Result File TableFault → List ℕ
 read-text (Ok f) = table-text f

@@ -42,9 +42,13 @@ table f = record {
   layers = λ s k. 0;
 }
 
+-- how many records an accepted file has: one for each state and setting
+abbrev pub record-count : File → ℕ
+record-count f = f .states * f .settings
+
 -- record i, if the file has one
 abbrev pub record-numbered : File → ℕ → Option Record
-record-numbered f i = cond (ltb i (f .states * f .settings)) (Some (record-at (f .bytes) i)) None
+record-numbered f i = cond (ltb i (record-count f)) (Some (record-at (f .bytes) i)) None
 
 -- each record's state and setting step to that record's mark and next state
 abbrev pub Steps-as-recorded : List ℕ → Meaning ℕ → Type 0

@@ -3,8 +3,8 @@ use crate::records::Record;
 use crate::records::Table;
 use crate::records::reading::record;
 ghost use mathlib.Core.Path.{_≡_};
-ghost use Prim.Native.Nat.{_*_, _<_};
-ghost use Rattle.table.specs.Tables.{file, record-of, record-numbered};
+ghost use Prim.Native.Nat.{_<_};
+ghost use Rattle.table.specs.Tables.{file, record-count, record-of, record-numbered};
 
 impl Table {
     // N, the number of states: known states are 0 to N - 1.
@@ -16,7 +16,7 @@ impl Table {
 
     // How many records the table has: one for each state and setting.
     pub fn record_count(&self) -> usize
-        ensures { λ r. ⌜ r ≡ file (now (self .entry)) .states * file (now (self .entry)) .settings ⌝ }
+        ensures { λ r. ⌜ r ≡ record-count (file (now (self .entry))) ⌝ }
     {
         self.bytes.len() / RECORD_BYTES
     }
