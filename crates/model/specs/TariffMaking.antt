@@ -26,6 +26,7 @@ charge-hour f = f .hour
 abbrev pub Charge-in-range : List ℕ → ℕ → Type 0
 Charge-in-range charges hour = getD charges hour 0 ≤ highest-charge
 
+-- the same as a test of one charge
 abbrev pub charge-in-range : ℕ → Bool
 charge-in-range charge = leb charge highest-charge
 
@@ -33,6 +34,7 @@ charge-in-range charge = leb charge highest-charge
 abbrev pub first-high-charge : List ℕ → Option ℕ
 first-high-charge charges = first-false 0 (map charge-in-range charges)
 
+-- refusal 9 with the hour, if there is one, else the answer
 abbrev pub refused-at : {A : Type 0} → Option ℕ → A → Result A BadCharge
 refused-at (Some hour) x = Err (record { hour = hour })
 refused-at None x = Ok x

@@ -20,9 +20,11 @@ pub record File : Type 0 where
   pub states : ℕ
   pub settings : ℕ
 
+-- there are records, and each is whole
 abbrev pub whole : List ℕ → Bool
 whole bs = ltb 0 (length bs) && eqb (length bs % record-bytes) 0
 
+-- the last setting is below 16, and there is one record for each state and setting
 abbrev pub complete : List ℕ → Bool
 complete bs = ltb (record-at bs (last bs) .setting) most-settings && eqb (count bs) (states bs * settings bs)
 
@@ -35,6 +37,7 @@ record-fault bs n k i =
     (Some (refusal 6 i)))
     (Some (refusal 5 i))
 
+-- an option, or else another
 abbrev pub or-else : {A : Type 0} → Option A → Option A → Option A
 or-else (Some x) o = Some x
 or-else None o = o
@@ -44,6 +47,7 @@ abbrev pub first-of : {A : Type 0} → (ℕ → Option A) → ℕ → ℕ → Op
 first-of f i zero = None
 first-of f i (suc n) = or-else (f i) (first-of f (i + 1) n)
 
+-- the refusal if there is one, else the answer
 abbrev pub unless : {A : Type 0} → Option TableFault → A → Result A TableFault
 unless (Some e) x = Err e
 unless None x = Ok x

@@ -19,9 +19,11 @@ Complete bs = (record-at bs (last bs) .setting < most-settings) × (count bs ≡
 abbrev pub In-order : List ℕ → ℕ → Type 0
 In-order bs i = (record-at bs i .state ≡ i / settings bs) × (record-at bs i .setting ≡ i % settings bs)
 
+-- its next state is known
 abbrev pub Next-known : List ℕ → ℕ → Type 0
 Next-known bs i = record-at bs i .next < states bs
 
+-- its mark is at most 1,000
 abbrev pub Mark-in-range : List ℕ → ℕ → Type 0
 Mark-in-range bs i = record-at bs i .mark ≤ highest-mark
 

@@ -23,6 +23,7 @@ use Rattle.table.specs.declared.records.Table.{Table}
 abbrev pub file : Table → File
 file t = record { bytes = vec-items (t .bytes); states = t .states; settings = t .settings }
 
+-- the answer of reading, with the file for the table
 abbrev pub file-read : Result Table TableFault → Result File TableFault
 file-read (Ok t) = Ok (file t)
 file-read (Err e) = Err e
