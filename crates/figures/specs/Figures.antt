@@ -1,12 +1,16 @@
 -- The worked figures, as facts about the definitions that the contracts of the calls cite.
 use mathlib.Core.Path.{_≡_}
-use mathlib.Core.List.{List, [], _∷_}
+use mathlib.Core.List.{List, [], _∷_, _++_}
 use Prim.Native.Nat.{ℕ}
 use lib.IntN.{pos}
+use lib.ListN.{replicate}
 use lib.Ieee.{Float, binary64, ofInt, div}
+use Rattle.std.specs.declared.option.Option.the-variants.{Some, None}
 use Rattle.std.specs.declared.result.Result.the-variants.{Ok, Err}
 use Rattle.model.specs.Faults.{refusal}
-use Rattle.model.specs.Meaning.{step}
+use Rattle.model.specs.Meaning.{Meaning, step}
+use Rattle.model.specs.TariffMaking.{first-high-charge}
+use Rattle.model.specs.Tariffs.{tariff}
 use Rattle.table.specs.Reading.{File, read}
 use Rattle.table.specs.Tables.{table}
 use Rattle.basin.specs.Ranges.{Parameters}
@@ -37,6 +41,35 @@ pub record Pond-figures : Type 0 where
   pub state-1-setting-1 : step (table pond) 1 1 ≡ Ok (300, 0)
   pub state-2-unknown : step (table pond) 2 2 ≡ Err (refusal 1 0)
   pub setting-2-unknown : step (table pond) 1 2 ≡ Err (refusal 2 0)
+
+-- charges of 150, but 400 at the hour 23
+abbrev pub charges : List ℕ
+charges = replicate 23 150 ++ (400 ∷ [])
+
+-- a tariff over the pond, and one over that
+abbrev pub pond-tariff : Meaning (ℕ × ℕ)
+pond-tariff = tariff charges (table pond)
+
+abbrev pub two-tariffs : Meaning (ℕ × (ℕ × ℕ))
+two-tariffs = tariff charges pond-tariff
+
+pub record Tariff-figures : Type 0 where
+  -- setting 0 is never charged, another setting is, not below 0; the hour moves on, 23 to 0
+  pub setting-0-free : step pond-tariff (0, 0) 0 ≡ Ok (200, (1, 0))
+  pub setting-1-charged : step pond-tariff (0, 1) 1 ≡ Ok (150, (1, 0))
+  pub not-below-0 : step pond-tariff (23, 1) 1 ≡ Ok (0, (0, 0))
+  pub setting-0-free-at-23 : step pond-tariff (23, 1) 0 ≡ Ok (1000, (0, 1))
+  -- the hour is checked first; a refusal from below has a layer more
+  pub hour-first : step pond-tariff (24, 7) 9 ≡ Err (refusal 1 0)
+  pub state-below : step pond-tariff (23, 7) 9 ≡ Err (refusal 1 1)
+  pub setting-below : step pond-tariff (23, 1) 2 ≡ Err (refusal 2 1)
+  pub hour-below : step two-tariffs (0, (24, 7)) 9 ≡ Err (refusal 1 1)
+  pub state-two-below : step two-tariffs (0, (0, 7)) 9 ≡ Err (refusal 1 2)
+  -- both tariffs charge: 300 less 150 less 150
+  pub charged-twice : step two-tariffs (0, (0, 1)) 1 ≡ Ok (0, (1, (1, 0)))
+  -- 1,000 is in range, and the first charge above it is the one refused
+  pub in-range : first-high-charge (replicate 24 1000) ≡ None
+  pub first-high : first-high-charge (replicate 4 1000 ++ replicate 20 1001) ≡ Some 4
 
 -- the double of n / d
 abbrev double : ℕ → ℕ → Float
@@ -69,4 +102,5 @@ pub record Basin-figures : Type 0 where
 -- all worked figures
 pub record Figures : Type 0 where
   pub pond-figures : Pond-figures
+  pub tariff-figures : Tariff-figures
   pub basin-figures : Basin-figures

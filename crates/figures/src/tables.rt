@@ -49,6 +49,15 @@ fn refusal(heap: Global, records: &[Words]) -> Result<(u8, usize), AllocError> {
     }
 }
 
+// The same for a table of one state and this many settings, all in order.
+fn one_state_refusal(heap: Global, settings: u16) -> Result<(u8, usize), AllocError> {
+    let mut records: Vec<Words> = Vec::new(heap);
+    for setting in 0..settings {
+        records.push([0, setting, 0, 0])?;
+    }
+    refusal(heap, records.as_slice())
+}
+
 // What is told of a file of n zero bytes.
 fn told_zeros(heap: Global, n: usize) -> Result<String, AllocError> {
     listing(heap, vec![in heap; 0u8; n]?)
@@ -113,8 +122,9 @@ fn a_walk_ends_or_tells_its_place(rt: LibcRuntime) -> Result<(), Fail> {
 #[test]
 fn files_are_refused_by_3_and_4(rt: LibcRuntime) -> Result<(), Fail> {
     check_eq(refusal(rt.alloc(), &[])?, (3, 0))?;
-    // the last setting is 16: 17 records of one state
-    check_eq(refusal(rt.alloc(), &[[0, 16, 0, 0]])?, (4, 0))?;
+    // one state with 16 settings is accepted; with 17 the count is N × K and only the last setting is wrong
+    check_eq(one_state_refusal(rt.alloc(), 16)?, (0, 0))?;
+    check_eq(one_state_refusal(rt.alloc(), 17)?, (4, 16))?;
     // 2 states and 2 settings, but 3 records
     check_eq(
         refusal(rt.alloc(), &[[0, 0, 0, 0], [0, 1, 0, 0], [1, 1, 0, 0]])?,

@@ -17,7 +17,7 @@ highest-charge = 1000
 
 -- the hour after this one; after 23 comes 0
 abbrev pub hour-after : ℕ → ℕ
-hour-after hour = cond (eqb hour 23) 0 (hour + 1)
+hour-after hour = cond (eqb hour (hours - 1)) 0 (hour + 1)
 
 -- the mark that is left: every setting but 0 pays the hour's charge, as far as the mark goes
 abbrev pub charged : List ℕ → ℕ → ℕ → ℕ → ℕ

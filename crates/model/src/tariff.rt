@@ -4,6 +4,7 @@ pub mod stepping;
 
 ghost use Prim.Native.Nat.{ℕ, _≤_, _<_};
 ghost use lib.ListN.{getD};
+ghost use Rattle.model.specs.Tariffs.{hours, highest-charge};
 
 // The hours of a day.
 pub const HOURS: u8 = 24;
@@ -23,5 +24,5 @@ pub struct Tariff<M> {
     // what each hour takes off the mark of every setting but 0
     charges: [u16; 24],
     model: M,
-    ghost charges_in_range: { (h : ℕ) → h < 24 → getD charges h 0 ≤ 1000 },
+    ghost charges_in_range: { (h : ℕ) → h < hours → getD charges h 0 ≤ highest-charge },
 }

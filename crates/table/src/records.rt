@@ -6,6 +6,7 @@ pub mod stepping;
 ghost use mathlib.Core.Path.{_≡_};
 ghost use Prim.Native.Nat.{ℕ, _*_, _≤_, _<_};
 ghost use Rattle.std.specs.Of.Vec.{vec-len, vec-items};
+ghost use Rattle.model.specs.Meaning.{most-settings, highest-mark};
 ghost use Rattle.table.specs.Layout.{record-bytes, record-at};
 
 // The bytes of a record.
@@ -29,8 +30,8 @@ pub struct Table {
     // K
     settings: usize,
     ghost one_setting: { 1 ≤ settings },
-    ghost few_settings: { settings ≤ 16 },
+    ghost few_settings: { settings ≤ most-settings },
     ghost complete: { vec-len bytes ≡ record-bytes * (states * settings) },
     ghost next_known: { (i : ℕ) → i < states * settings → record-at (vec-items bytes) i .next < states },
-    ghost small_marks: { (i : ℕ) → i < states * settings → record-at (vec-items bytes) i .mark ≤ 1000 },
+    ghost small_marks: { (i : ℕ) → i < states * settings → record-at (vec-items bytes) i .mark ≤ highest-mark },
 }

@@ -4,11 +4,11 @@ use crate::tariff::HOURS;
 use crate::tariff::Tariff;
 ghost use mathlib.Core.Path.{_≡_};
 ghost use Prim.Native.Nat.{_<_};
-ghost use Rattle.model.specs.Tariffs.{tariff, charged, hour-after};
+ghost use Rattle.model.specs.Tariffs.{tariff, hours, charged, hour-after};
 
 // The hour after this one; after 23 comes 0.
 fn hour_after(hour: u8) -> u8
-    requires { ⌜ hour < 24 ⌝ }
+    requires { ⌜ hour < hours ⌝ }
     ensures { λ r. ⌜ r ≡ hour-after hour ⌝ }
 {
     if hour == HOURS - 1 { 0 } else { hour + 1 }
@@ -16,7 +16,7 @@ fn hour_after(hour: u8) -> u8
 
 // The mark that is left when every setting but 0 has paid the charge of the hour.
 fn charged(charges: &[u16; 24], hour: u8, setting: u8, mark: u16) -> u16
-    requires { ⌜ hour < 24 ⌝ }
+    requires { ⌜ hour < hours ⌝ }
     ensures { λ r. ⌜ r ≡ charged (now (charges .entry)) hour setting mark ⌝ }
 {
     if setting == 0 {
