@@ -1,0 +1,5 @@
+pub mod Roundings
+pub mod Joined
+pub mod KindLaws
+pub mod WorthBounds
+pub mod Backwards
