@@ -1,10 +1,14 @@
 -- A loop over marks from the last to the first: what is joined so far stands behind what is left.
 use mathlib.Core.Path.{_≡_, refl, sym, ap, _∙_}
 use mathlib.Core.List.{List, [], _∷_, _++_}
-use Prim.Native.Nat.{ℕ}
+use Prim.Native.Nat.{ℕ, _<_}
 use native.Mathlib.Omega.{arith}
-use lib.ListN.{length}
+use lib.ListN.{length, length-append}
 use Rattle.reckoning.specs.Worths.{joined-from}
+
+-- each turn leaves fewer
+pub fewer-left : (left fewer : List ℕ) (last : ℕ) → left ≡ fewer ++ (last ∷ []) → length fewer < length left
+fewer-left left fewer last cut = omega (arith, ap length cut, length-append fewer (last ∷ []))
 
 module _ (join : ℕ → ℕ → ℕ) where
   -- the last mark is joined first

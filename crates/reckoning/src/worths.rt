@@ -3,7 +3,14 @@ use crate::joinings::Reckoning;
 ghost use mathlib.Core.Path.{_≡_};
 ghost use Prim.Native.Nat.{_≤_, _<_};
 ghost use Rattle.reckoning.specs.Grains.{whole, highest-ceiling};
-ghost use Rattle.reckoning.specs.Worths.{low-worth, high-worth, one-deeper, width as width-at, Low-at-most-exact, Exact-at-most-high, Exact-at-most-ceiling, Worths-within-width};
+ghost use Rattle.reckoning.specs.Worths.{Splits-last, low-worth, high-worth, one-deeper, width as width-at, Low-at-most-exact, Exact-at-most-high, Exact-at-most-ceiling, Worths-within-width};
+
+// The last mark and the marks before it.
+fn last_mark(marks: &[u16]) -> Option<(&u16, &[u16])>
+    ensures { λ r. ⌜ Splits-last (now (marks .entry)) r ⌝ }
+{
+    marks.split_last()
+}
 
 // The low worth of a list of marks, in grains: joined from the last mark to the first, beginning with 0.
 pub fn low_worth<R: Reckoning>(reckoning: &R, marks: &[u16]) -> u64
@@ -11,8 +18,10 @@ pub fn low_worth<R: Reckoning>(reckoning: &R, marks: &[u16]) -> u64
     ensures at_most_exact { λ _. ⌜ Low-at-most-exact (meaning (now (reckoning .entry))) (now (marks .entry)) ⌝ }
 {
     let mut worth = 0;
-    for mark in marks.iter().rev() {
+    let mut left = marks;
+    while let Some((mark, before)) = last_mark(left) {
         worth = reckoning.low(*mark, worth);
+        left = before;
     }
     worth
 }
@@ -24,8 +33,10 @@ pub fn high_worth<R: Reckoning>(reckoning: &R, marks: &[u16]) -> u64
     ensures exact_at_most_ceiling { λ _. ⌜ Exact-at-most-ceiling (meaning (now (reckoning .entry))) (now (marks .entry)) ⌝ }
 {
     let mut worth = reckoning.ceiling();
-    for mark in marks.iter().rev() {
+    let mut left = marks;
+    while let Some((mark, before)) = last_mark(left) {
         worth = reckoning.high(*mark, worth);
+        left = before;
     }
     worth
 }

@@ -1,9 +1,12 @@
 use mathlib.Core.Path.{_≡_}
-use Rattle.std.specs.Parts.{iter-rest, rev-source}
+use lib.ListN.{length}
 use Rattle.reckoning.specs.Worths.{low-worth, joined-from}
 use Rattle.reckoning.proofs.worths.low_worth.Given as given
 
 abbrev pub Inv-loop-mark : given.InvT-loop-mark
 Inv-loop-mark g l =
     let m = g .R·Reckoning .meaning (l .reckoning) in
-    joined-from (m .low) (l .worth) (iter-rest (rev-source (l .mark-iterator))) ≡ low-worth m (l .marks)
+    joined-from (m .low) (l .worth) (l .left) ≡ low-worth m (l .marks)
+
+abbrev pub μ-loop-mark : given.MeasureT-loop-mark
+μ-loop-mark g l = length (l .left)
