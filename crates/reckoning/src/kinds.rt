@@ -1,6 +1,7 @@
 // Two kinds of reckoning. Both join the grains of the mark and the discounted rest.
-pub mod joining;
 pub mod making;
+pub mod moment;
+pub mod sum;
 
 ghost use mathlib.Core.Path.{_≡_};
 ghost use Prim.Native.Nat.{_<_};
