@@ -1,7 +1,7 @@
 -- The worked figures, as facts about the definitions that the contracts of the calls cite.
 use mathlib.Core.Path.{_≡_}
 use mathlib.Core.List.{List, [], _∷_, _++_}
-use Prim.Native.Nat.{ℕ}
+use Prim.Native.Nat.{ℕ, _+_, _*_, _/_, _^_, _≤_, max}
 use lib.IntN.{pos}
 use lib.ListN.{replicate}
 use lib.Ieee.{Float, binary64, ofInt, div}
@@ -19,6 +19,11 @@ use Rattle.basin.specs.Stepping.{water}
 use Rattle.basin.specs.declared.metres.CostedSetting.{CostedSetting}
 use Rattle.basin.specs.declared.metres.Setting.the-variants.{Rest, Pump, Gate}
 use Rattle.basin.specs.declared.metres.Water.{Water}
+use Rattle.reckoning.specs.Grains.{whole}
+use Rattle.reckoning.specs.Kinds.{running-sum, best-moment}
+use Rattle.reckoning.specs.Making.{made-with, discount-number}
+use Rattle.reckoning.specs.declared.fault.BadDiscount.{BadDiscount}
+use Rattle.reckoning.specs.Worths.{low-worth, high-worth, exact-worth, width}
 
 -- the pond table: 2 states and 2 settings
 abbrev pub pond-bytes : List ℕ
@@ -99,8 +104,56 @@ pub record Basin-figures : Type 0 where
   pub pump-earns : water small-basin .mark high-water 1 ≡ 700
   pub gate-earns : water small-basin .mark high-water 2 ≡ 900
 
+-- Reckonings. The definitions are written over named numbers; here they stand in the figures of the rules.
+pub record Sum-figures : Type 0 where
+  -- 10^9 / (1000 − g) rounded up
+  pub ceiling-1 : running-sum 1 .ceiling ≡ 1001002
+  pub ceiling-333 : running-sum 333 .ceiling ≡ 1499251
+  pub ceiling-999 : running-sum 999 .ceiling ≡ 1000000000
+  -- the marks 1, 1, 1: exact over 10^9
+  pub low-ones : low-worth (running-sum 333) (1 ∷ 1 ∷ 1 ∷ []) ≡ 1443
+  pub exact-ones : exact-worth (running-sum 333) (1 ∷ 1 ∷ 1 ∷ []) ≡ 1443889000000
+  pub ones-over : whole ^ 3 ≡ 1000000000
+  -- the first mark counts in full, a later one less: 1,000 + 333 × 2,000 / 1000, against 2,000 + 333
+  pub first-in-full : low-worth (running-sum 333) (1 ∷ 2 ∷ []) ≡ 1666
+  pub later-less : low-worth (running-sum 333) (2 ∷ 1 ∷ []) ≡ 2333
+  -- the high worth begins with the ceiling and rounds up: 333 × 1,499,251 / 1000 is 499,250.583
+  pub high-none : high-worth (running-sum 333) [] ≡ 1499251
+  pub high-one : high-worth (running-sum 333) (1 ∷ []) ≡ 500251
+  pub width-2 : width (running-sum 500) 2 ≡ 500002
+  -- the joinings, for marks up to 1,000 and rests up to the ceiling
+  pub low-joining : (g mark rest : ℕ) → mark ≤ 1000 → rest ≤ running-sum g .ceiling → running-sum g .low mark rest ≡ 1000 * mark + g * rest / 1000
+  pub high-joining : (g mark rest : ℕ) → mark ≤ 1000 → rest ≤ running-sum g .ceiling → running-sum g .high mark rest ≡ 1000 * mark + (g * rest + 999) / 1000
+  pub exact-joining : (g n mark num : ℕ) → running-sum g .exact n mark num ≡ 1000 ^ (n + 2) * mark + g * num
+
+pub record Moment-figures : Type 0 where
+  pub ceiling-any : (g : ℕ) → best-moment g .ceiling ≡ 1000000
+  -- 500 now, or 900 at the next step, which counts for 450 at g 500 and for 810 at g 900
+  pub low-now : low-worth (best-moment 500) (500 ∷ 900 ∷ []) ≡ 500000
+  pub low-later : low-worth (best-moment 900) (500 ∷ 900 ∷ []) ≡ 810000
+  pub exact-later : exact-worth (best-moment 900) (500 ∷ 900 ∷ []) ≡ 810000000000
+  -- after a mark of 0, what could follow: 333 × 1,000,000 / 1000, then 333 × 333,000 / 1000
+  pub high-after : high-worth (best-moment 333) (0 ∷ 0 ∷ []) ≡ 110889
+  -- 333 × 110,889 / 1000 is 36,926.037
+  pub high-rounded : high-worth (best-moment 333) (0 ∷ 0 ∷ 0 ∷ []) ≡ 36927
+  pub width-2 : width (best-moment 500) 2 ≡ 250002
+  pub low-joining : (g mark rest : ℕ) → mark ≤ 1000 → rest ≤ 1000000 → best-moment g .low mark rest ≡ max (1000 * mark) (g * rest / 1000)
+  pub high-joining : (g mark rest : ℕ) → mark ≤ 1000 → rest ≤ 1000000 → best-moment g .high mark rest ≡ max (1000 * mark) ((g * rest + 999) / 1000)
+  pub exact-joining : (g n mark num : ℕ) → best-moment g .exact n mark num ≡ max (1000 ^ (n + 2) * mark) (g * num)
+
+-- discounts from 1 to 999 are in range
+pub record Discount-figures : Type 0 where
+  pub discount-0 : made-with 0 ≡ Err (record { discount = 0 })
+  pub discount-1 : made-with 1 ≡ Ok 1
+  pub discount-999 : made-with 999 ≡ Ok 999
+  pub discount-1000 : made-with 1000 ≡ Err (record { discount = 1000 })
+  pub refused-by-10 : (f : BadDiscount) → discount-number f ≡ 10
+
 -- all worked figures
 pub record Figures : Type 0 where
   pub pond-figures : Pond-figures
   pub tariff-figures : Tariff-figures
   pub basin-figures : Basin-figures
+  pub sum-figures : Sum-figures
+  pub moment-figures : Moment-figures
+  pub discount-figures : Discount-figures

@@ -2,6 +2,8 @@
 #[cfg(test)]
 mod basins;
 #[cfg(test)]
+mod reckonings;
+#[cfg(test)]
 mod tables;
 #[cfg(test)]
 mod tariffs;

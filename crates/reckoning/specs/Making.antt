@@ -25,10 +25,10 @@ abbrev pub made-with : ℕ → Result ℕ BadDiscount
 made-with g = cond (discount-in-range g) (Ok g) (Err (record { discount = g }))
 
 -- the discount that a reckoning was made with; it says all that the reckoning means
-abbrev pub of-sum : Result RunningSum BadDiscount → Result ℕ BadDiscount
-of-sum (Ok r) = Ok (r .discount)
-of-sum (Err f) = Err f
+abbrev pub sum-discount : Result RunningSum BadDiscount → Result ℕ BadDiscount
+sum-discount (Ok r) = Ok (r .discount)
+sum-discount (Err f) = Err f
 
-abbrev pub of-moment : Result BestMoment BadDiscount → Result ℕ BadDiscount
-of-moment (Ok r) = Ok (r .discount)
-of-moment (Err f) = Err f
+abbrev pub moment-discount : Result BestMoment BadDiscount → Result ℕ BadDiscount
+moment-discount (Ok r) = Ok (r .discount)
+moment-discount (Err f) = Err f

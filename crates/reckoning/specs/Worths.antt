@@ -1,11 +1,8 @@
 -- The worths of a list of marks, joined from the last mark to the first, and the width at a depth.
 use mathlib.Core.Path.{_≡_}
-use mathlib.Core.List.{List, [], _∷_, _++_}
+use mathlib.Core.List.{List, [], _∷_}
 use Prim.Native.Nat.{ℕ, zero, suc, _+_, _-_, _*_, _^_, _≤_}
 use lib.ListN.{length}
-use denote.Ref.{RefT}
-use Rattle.std.specs.Options.{Cases}
-use Rattle.std.specs.declared.option.Option.{Option}
 use Rattle.std.specs.shelf.Lists.{All}
 use Rattle.model.specs.Meaning.{highest-mark}
 use Rattle.reckoning.specs.Grains.{whole, rounded-up}
@@ -15,10 +12,6 @@ use Rattle.reckoning.specs.Meaning.{Meaning}
 abbrev pub joined-from : (ℕ → ℕ → ℕ) → ℕ → List ℕ → ℕ
 joined-from join start [] = start
 joined-from join start (mark ∷ rest) = join mark (joined-from join start rest)
-
--- the last mark and the marks before it, or none where there is no mark
-abbrev pub Splits-last : List ℕ → Option (RefT ℕ × RefT (List ℕ)) → Type 0
-Splits-last marks r = Cases r (length marks ≡ 0) (λ p. marks ≡ p .1 .now ++ (p .0 .now ∷ []))
 
 -- in whole grains, from below: what the marks are worth at least (in the field's terms: a lower bound)
 abbrev pub low-worth : Meaning → List ℕ → ℕ

@@ -1,13 +1,16 @@
 use crate::grains::discounted_up;
 use crate::joinings::Reckoning;
 ghost use mathlib.Core.Path.{_≡_};
+ghost use mathlib.Core.List.{[], _∷_, _++_};
 ghost use Prim.Native.Nat.{_≤_, _<_};
+ghost use lib.ListN.{length};
+ghost use Rattle.std.specs.Options.{Cases};
 ghost use Rattle.reckoning.specs.Grains.{whole, highest-ceiling};
-ghost use Rattle.reckoning.specs.Worths.{Splits-last, low-worth, high-worth, one-deeper, width as width-at, Low-at-most-exact, Exact-at-most-high, Exact-at-most-ceiling, Worths-within-width};
+ghost use Rattle.reckoning.specs.Worths.{low-worth, high-worth, one-deeper, width as width-at, Low-at-most-exact, Exact-at-most-high, Exact-at-most-ceiling, Worths-within-width};
 
 // The last mark and the marks before it.
 fn last_mark(marks: &[u16]) -> Option<(&u16, &[u16])>
-    ensures { λ r. ⌜ Splits-last (now (marks .entry)) r ⌝ }
+    ensures { λ r. ⌜ Cases r (length (now (marks .entry)) ≡ 0) (λ p. now (marks .entry) ≡ p .1 .now ++ (p .0 .now ∷ [])) ⌝ }
 {
     marks.split_last()
 }

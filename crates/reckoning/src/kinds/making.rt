@@ -8,7 +8,7 @@ ghost use mathlib.Core.Path.{_≡_};
 ghost use Prim.Native.Nat.{_<_};
 ghost use Rattle.reckoning.specs.Grains.{whole};
 ghost use Rattle.reckoning.specs.Kinds.{sum-ceiling};
-ghost use Rattle.reckoning.specs.Making.{discount-in-range, made-with, of-sum, of-moment};
+ghost use Rattle.reckoning.specs.Making.{discount-in-range, made-with, sum-discount, moment-discount};
 
 // Whether a discount is in range.
 fn in_range(discount: u16) -> bool
@@ -39,7 +39,7 @@ fn sum_ceiling(discount: u16) -> u64
 impl RunningSum {
     // The running sum with this discount, which is refused by 10 if it is not 1 to 999.
     pub fn new(discount: u16) -> Result<RunningSum, BadDiscount>
-        ensures { λ r. ⌜ of-sum r ≡ made-with discount ⌝ }
+        ensures { λ r. ⌜ sum-discount r ≡ made-with discount ⌝ }
     {
         let discount = checked(discount)?;
         Ok(RunningSum {
@@ -52,7 +52,7 @@ impl RunningSum {
 impl BestMoment {
     // The best moment with this discount, which is refused by 10 if it is not 1 to 999.
     pub fn new(discount: u16) -> Result<BestMoment, BadDiscount>
-        ensures { λ r. ⌜ of-moment r ≡ made-with discount ⌝ }
+        ensures { λ r. ⌜ moment-discount r ≡ made-with discount ⌝ }
     {
         let discount = checked(discount)?;
         Ok(BestMoment { discount })
