@@ -1,6 +1,6 @@
 -- What the laws of a reckoning give of whole lists of marks.
 use mathlib.Core.Path.{_≡_, subst}
-use mathlib.Core.List.{List, [], _∷_}
+use mathlib.Core.List.{List, [], _∷_, _++_}
 use Prim.Native.Nat.{ℕ, zero, suc, _+_, _-_, _*_, _^_, _≤_}
 use native.Mathlib.Nat.{le-refl, le-trans, mul-le-mul-left, mul-le-mul-right}
 use native.Mathlib.Omega.{arith}
@@ -8,8 +8,13 @@ use lib.ListN.{length}
 use Rattle.model.specs.Meaning.{highest-mark}
 use Rattle.reckoning.specs.Grains.{whole, highest-ceiling, rounded-up}
 use Rattle.reckoning.specs.Meaning.{Meaning, Laws}
-use Rattle.reckoning.specs.Worths.{low-worth, high-worth, exact-worth, width, Are-marks, Low-at-most-exact, Exact-at-most-high, Exact-at-most-ceiling, Worths-within-width}
+use Rattle.reckoning.specs.Worths.{low-worth, high-worth, exact-worth, width, Are-marks, Low-at-most-exact, Exact-at-most-high, Continued-at-most-high, Exact-at-most-ceiling, Worths-within-width}
 use Rattle.reckoning.proofs.Roundings.{up-rises}
+
+-- the marks at the front of a list of marks are marks
+pub front-marks : (marks more : List ℕ) → Are-marks (marks ++ more) → Are-marks marks
+front-marks [] more s = tt
+front-marks (mark ∷ marks) more s = (s .0, front-marks marks more (s .1))
 
 module _ (r : Meaning) (laws : Laws r) where
   -- one joining: low is at most high, and high at most the ceiling
@@ -48,6 +53,11 @@ module _ (r : Meaning) (laws : Laws r) where
 
   pub exact-at-most-ceiling : (marks : List ℕ) → Exact-at-most-ceiling r marks
   exact-at-most-ceiling marks s = le-trans (exact-at-most-high marks s) (mul-le-mul-right (whole ^ length marks) (high-below-ceiling marks s))
+
+  pub continued-at-most-high : (marks : List ℕ) → Continued-at-most-high r marks
+  continued-at-most-high [] more s = exact-at-most-ceiling more s
+  continued-at-most-high (mark ∷ rest) more s =
+      laws .exact-below-high (length (rest ++ more)) mark (high-worth r rest) (exact-worth r (rest ++ more)) (s .0) (high-below-ceiling rest (front-marks rest more (s .1))) (continued-at-most-high rest more (s .1))
 
   pub low-at-most-exact : (marks : List ℕ) → Low-at-most-exact r marks
   low-at-most-exact [] s = omega arith

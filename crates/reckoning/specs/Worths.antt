@@ -1,6 +1,6 @@
 -- The worths of a list of marks, joined from the last mark to the first, and the width at a depth.
 use mathlib.Core.Path.{_≡_}
-use mathlib.Core.List.{List, [], _∷_}
+use mathlib.Core.List.{List, [], _∷_, _++_}
 use Prim.Native.Nat.{ℕ, zero, suc, _+_, _-_, _*_, _^_, _≤_}
 use lib.ListN.{length}
 use Rattle.std.specs.shelf.Lists.{All}
@@ -45,6 +45,11 @@ Low-at-most-exact r marks = Are-marks marks → low-worth r marks * whole ^ leng
 
 abbrev pub Exact-at-most-high : Meaning → List ℕ → Type 0
 Exact-at-most-high r marks = Are-marks marks → exact-worth r marks ≤ high-worth r marks * whole ^ length marks
+
+-- The high worth of marks is also at least the exact worth of whatever begins with them.
+abbrev pub Continued-at-most-high : Meaning → List ℕ → Type 0
+Continued-at-most-high r marks =
+    (more : List ℕ) → Are-marks (marks ++ more) → exact-worth r (marks ++ more) ≤ high-worth r marks * whole ^ length (marks ++ more)
 
 -- No marks are worth more than the ceiling.
 abbrev pub Exact-at-most-ceiling : Meaning → List ℕ → Type 0

@@ -6,7 +6,7 @@ ghost use Prim.Native.Nat.{_≤_, _<_};
 ghost use lib.ListN.{length};
 ghost use Rattle.std.specs.Options.{Cases};
 ghost use Rattle.reckoning.specs.Grains.{whole, highest-ceiling};
-ghost use Rattle.reckoning.specs.Worths.{low-worth, high-worth, one-deeper, width as width-at, Low-at-most-exact, Exact-at-most-high, Exact-at-most-ceiling, Worths-within-width};
+ghost use Rattle.reckoning.specs.Worths.{low-worth, high-worth, one-deeper, width as width-at, Low-at-most-exact, Exact-at-most-high, Continued-at-most-high, Exact-at-most-ceiling, Worths-within-width};
 
 // The last mark and the marks before it.
 fn last_mark(marks: &[u16]) -> Option<(&u16, &[u16])>
@@ -33,6 +33,7 @@ pub fn low_worth<R: Reckoning>(reckoning: &R, marks: &[u16]) -> u64
 pub fn high_worth<R: Reckoning>(reckoning: &R, marks: &[u16]) -> u64
     ensures value { λ worth. ⌜ worth ≡ high-worth (meaning (now (reckoning .entry))) (now (marks .entry)) ⌝ }
     ensures at_least_exact { λ _. ⌜ Exact-at-most-high (meaning (now (reckoning .entry))) (now (marks .entry)) ⌝ }
+    ensures at_least_any_continuation { λ _. ⌜ Continued-at-most-high (meaning (now (reckoning .entry))) (now (marks .entry)) ⌝ }
     ensures exact_at_most_ceiling { λ _. ⌜ Exact-at-most-ceiling (meaning (now (reckoning .entry))) (now (marks .entry)) ⌝ }
 {
     let mut worth = reckoning.ceiling();

@@ -1,6 +1,6 @@
 use Rattle.reckoning.specs.Worths.{high-worth}
 use Rattle.reckoning.proofs.Backwards.{fewer-left, joined-more, joined-all}
-use Rattle.reckoning.proofs.WorthBounds.{exact-at-most-high, exact-at-most-ceiling}
+use Rattle.reckoning.proofs.WorthBounds.{exact-at-most-high, continued-at-most-high, exact-at-most-ceiling}
 use Rattle.reckoning.proofs.worths.high_worth.Needs as need
 
 pub loop-mark-less : need.loop-mark-less
@@ -18,5 +18,6 @@ returns g c =
     record {
       value = joined-all (m .high) (c .loop-mark .worth) (high-worth m (c .args .marks .now)) (c .loop-mark .left .now) (c .in-rest .ensures tt) (c .loop-mark .inv);
       at-least-exact = exact-at-most-high m laws (c .args .marks .now);
+      at-least-any-continuation = continued-at-most-high m laws (c .args .marks .now);
       exact-at-most-ceiling = exact-at-most-ceiling m laws (c .args .marks .now);
     }
