@@ -19,7 +19,7 @@ use Rattle.basin.specs.Stepping.{water}
 use Rattle.basin.specs.declared.metres.CostedSetting.{CostedSetting}
 use Rattle.basin.specs.declared.metres.Setting.the-variants.{Rest, Pump, Gate}
 use Rattle.basin.specs.declared.metres.Water.{Water}
-use Rattle.reckoning.specs.Grains.{whole}
+use Rattle.reckoning.specs.Grains.{whole, highest-ceiling}
 use Rattle.reckoning.specs.Kinds.{running-sum, best-moment}
 use Rattle.reckoning.specs.Making.{made-with, discount-number}
 use Rattle.reckoning.specs.declared.fault.BadDiscount.{BadDiscount}
@@ -120,6 +120,9 @@ pub record Sum-figures : Type 0 where
   -- the high worth begins with the ceiling and rounds up: 333 × 1,499,251 / 1000 is 499,250.583
   pub high-none : high-worth (running-sum 333) [] ≡ 1499251
   pub high-one : high-worth (running-sum 333) (1 ∷ []) ≡ 500251
+  -- a mark above 1,000 counts as 1,000, a rest above the ceiling as the ceiling: 1,000,000 and 1,001.002
+  pub low-above : running-sum 1 .low 65535 18446744073709551615 ≡ 1001001
+  pub high-above : running-sum 1 .high 65535 18446744073709551615 ≡ 1001002
   pub width-2 : width (running-sum 500) 2 ≡ 500002
   -- the joinings, for marks up to 1,000 and rests up to the ceiling
   pub low-joining : (g mark rest : ℕ) → mark ≤ 1000 → rest ≤ running-sum g .ceiling → running-sum g .low mark rest ≡ 1000 * mark + g * rest / 1000
@@ -136,18 +139,22 @@ pub record Moment-figures : Type 0 where
   pub high-after : high-worth (best-moment 333) (0 ∷ 0 ∷ []) ≡ 110889
   -- 333 × 110,889 / 1000 is 36,926.037
   pub high-rounded : high-worth (best-moment 333) (0 ∷ 0 ∷ 0 ∷ []) ≡ 36927
+  -- the same limits: 999 × 1,000,000 / 1000, and the grains of 1,000
+  pub low-above : best-moment 999 .low 0 18446744073709551615 ≡ 999000
+  pub high-above : best-moment 999 .high 65535 18446744073709551615 ≡ 1000000
   pub width-2 : width (best-moment 500) 2 ≡ 250002
   pub low-joining : (g mark rest : ℕ) → mark ≤ 1000 → rest ≤ 1000000 → best-moment g .low mark rest ≡ max (1000 * mark) (g * rest / 1000)
   pub high-joining : (g mark rest : ℕ) → mark ≤ 1000 → rest ≤ 1000000 → best-moment g .high mark rest ≡ max (1000 * mark) ((g * rest + 999) / 1000)
   pub exact-joining : (g n mark num : ℕ) → best-moment g .exact n mark num ≡ max (1000 ^ (n + 2) * mark) (g * num)
 
--- discounts from 1 to 999 are in range
-pub record Discount-figures : Type 0 where
+-- discounts are in range from 1 to 999, ceilings up to 10^12
+pub record Range-figures : Type 0 where
   pub discount-0 : made-with 0 ≡ Err (record { discount = 0 })
   pub discount-1 : made-with 1 ≡ Ok 1
   pub discount-999 : made-with 999 ≡ Ok 999
   pub discount-1000 : made-with 1000 ≡ Err (record { discount = 1000 })
   pub refused-by-10 : (f : BadDiscount) → discount-number f ≡ 10
+  pub ceilings : highest-ceiling ≡ 10 ^ 12
 
 -- all worked figures
 pub record Figures : Type 0 where
@@ -156,4 +163,4 @@ pub record Figures : Type 0 where
   pub basin-figures : Basin-figures
   pub sum-figures : Sum-figures
   pub moment-figures : Moment-figures
-  pub discount-figures : Discount-figures
+  pub range-figures : Range-figures

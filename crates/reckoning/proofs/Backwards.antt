@@ -17,11 +17,11 @@ module _ (join : ℕ → ℕ → ℕ) where
   joined-last start (mark ∷ marks) last = ap (join mark) (joined-last start marks last)
 
   -- one turn: `left` was what was left, and is now `fewer` with the last mark gone
-  pub joined-more : (so-far joined last whole : ℕ) (left fewer : List ℕ) → left ≡ fewer ++ (last ∷ []) → joined ≡ join last so-far → joined-from join so-far left ≡ whole → joined-from join joined fewer ≡ whole
-  joined-more so-far joined last whole left fewer cut turn inv =
+  pub joined-more : (so-far joined last worth : ℕ) (left fewer : List ℕ) → left ≡ fewer ++ (last ∷ []) → joined ≡ join last so-far → joined-from join so-far left ≡ worth → joined-from join joined fewer ≡ worth
+  joined-more so-far joined last worth left fewer cut turn inv =
       ap (λ x. joined-from join x fewer) turn ∙ sym (joined-last so-far fewer last) ∙ ap (joined-from join so-far) (sym cut) ∙ inv
 
   -- the end: nothing is left
-  pub joined-all : (so-far whole : ℕ) (left : List ℕ) → length left ≡ 0 → joined-from join so-far left ≡ whole → so-far ≡ whole
-  joined-all so-far whole [] none inv = inv
-  joined-all so-far whole (mark ∷ left) none inv = let no : ⊥ = omega (arith, none) in absurd no
+  pub joined-all : (so-far worth : ℕ) (left : List ℕ) → length left ≡ 0 → joined-from join so-far left ≡ worth → so-far ≡ worth
+  joined-all so-far worth [] none inv = inv
+  joined-all so-far worth (mark ∷ left) none inv = let no : ⊥ = omega (arith, none) in absurd no

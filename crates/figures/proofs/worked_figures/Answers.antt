@@ -5,7 +5,7 @@ use native.Mathlib.Omega.{arith}
 use lib.Ieee.{add, sub, mul, div, lt, le, ofBits, ofInt}
 use Rattle.std.specs.Floats.{withSign}
 use Rattle.reckoning.specs.Grains.{whole, rounded-up}
-use Rattle.figures.specs.Figures.{Pond-figures, Tariff-figures, Basin-figures, Sum-figures, Moment-figures, Discount-figures}
+use Rattle.figures.specs.Figures.{Pond-figures, Tariff-figures, Basin-figures, Sum-figures, Moment-figures, Range-figures}
 use Rattle.figures.proofs.worked_figures.Needs as need
 
 pond : Pond-figures
@@ -63,6 +63,8 @@ sum = record {
   later-less = refl;
   high-none = refl;
   high-one = refl;
+  low-above = refl;
+  high-above = refl;
   width-2 = refl;
   low-joining = λ g mark rest s c. rw (min-eq-left s, min-eq-left c) refl;
   high-joining = λ g mark rest s c. rw (min-eq-left s, min-eq-left c) (ap (λ x. 1000 * mark + x) (up-by-999 (g * rest)));
@@ -77,14 +79,23 @@ moment = record {
   exact-later = refl;
   high-after = refl;
   high-rounded = refl;
+  low-above = refl;
+  high-above = refl;
   width-2 = refl;
   low-joining = λ g mark rest s c. rw (min-eq-left s, min-eq-left c) refl;
   high-joining = λ g mark rest s c. rw (min-eq-left s, min-eq-left c) (ap (λ x. max (1000 * mark) x) (up-by-999 (g * rest)));
   exact-joining = λ g n mark num. ap (λ x. max x (g * num)) (two-powers n mark);
 }
 
-discount : Discount-figures
-discount = record { discount-0 = refl; discount-1 = refl; discount-999 = refl; discount-1000 = refl; refused-by-10 = λ f. refl }
+range : Range-figures
+range = record {
+  discount-0 = refl;
+  discount-1 = refl;
+  discount-999 = refl;
+  discount-1000 = refl;
+  refused-by-10 = λ f. refl;
+  ceilings = refl;
+}
 
 pub returns : need.returns
 returns c = record {
@@ -93,5 +104,5 @@ returns c = record {
   basin-figures = basin;
   sum-figures = sum;
   moment-figures = moment;
-  discount-figures = discount;
+  range-figures = range;
 }

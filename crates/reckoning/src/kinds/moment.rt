@@ -6,6 +6,7 @@ use crate::kinds::BestMoment;
 use model::HIGHEST_MARK;
 ghost use Rattle.reckoning.specs.Kinds.{best-moment};
 
+// The best moment takes the larger of the grains of the mark and the discounted rest.
 pub impl Reckoning for BestMoment as BestMomentReckoning {
     ghost meaning = { λ r. best-moment (r .discount) };
 

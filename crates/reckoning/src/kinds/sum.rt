@@ -5,6 +5,7 @@ use crate::joinings::Reckoning;
 use crate::kinds::RunningSum;
 ghost use Rattle.reckoning.specs.Kinds.{running-sum};
 
+// The running sum adds the grains of the mark and the discounted rest.
 pub impl Reckoning for RunningSum as RunningSumReckoning {
     ghost meaning = { λ r. running-sum (r .discount) };
 
