@@ -1,4 +1,6 @@
 // A basin of water as a model: its state is a level and an inflow, its settings are to rest, a pump and a gate.
+#![tactic(auto)]
+
 pub mod fault;
 pub mod metres;
 

@@ -1,5 +1,5 @@
 // Basins: their parameters, their marks, and states at the ends of what is known.
-use basin::{Basin, BasinModel, CostedSetting, Setting, Water, WaterBits};
+use basin::{Basin, CostedSetting, Setting, Water, WaterBits};
 use model::{Model, ModelFault};
 use std::test::Fail;
 

@@ -1,4 +1,6 @@
 // The worked figures of the rules, under one assertion, and examples as tests.
+#![tactic(auto)]
+
 #[cfg(test)]
 mod basins;
 #[cfg(test)]

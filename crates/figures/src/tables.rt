@@ -3,7 +3,7 @@ use model::{Model, ModelFault, WalkFault, walk};
 use std::alloc::{AllocError, Global};
 use std::test::Fail;
 use table::listing::listing;
-use table::{Record, Table, TableFault, TableModel};
+use table::{Record, Table, TableFault};
 
 // A record as state, setting, next state and mark.
 type Words = [u16; 4];

@@ -1,4 +1,6 @@
 // Models of a drainage plant: known states, numbered settings, the mark of a step and where it leads.
+#![tactic(auto)]
+
 pub mod fault;
 pub mod questions;
 pub mod tariff;

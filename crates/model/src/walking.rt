@@ -42,7 +42,7 @@ fn step_at<M: Model>(
     setting: u8,
     place: usize,
 ) -> Result<M::State, WalkFault>
-    ensures { result ≡ at_place place (stepped (meaning model.now) state setting) }
+    ensures { result ≡ at_place place (stepped (M.meaning model.now) state setting) }
 {
     match model.step(state, setting) {
         Ok((_, next)) => Ok(next),
@@ -52,8 +52,8 @@ fn step_at<M: Model>(
 
 // The state after the settings in their order, or the first refusal with its place.
 pub fn walk<M: Model>(model: &M, start: M::State, settings: &[u8]) -> Result<M::State, WalkFault>
-    ensures value { result ≡ walked (meaning model.now) start settings.now }
-    ensures known_walks_end_known { WalksToKnown (meaning model.now) start settings.now result }
+    ensures value { result ≡ walked (M.meaning model.now) start settings.now }
+    ensures known_walks_end_known { WalksToKnown (M.meaning model.now) start settings.now result }
 {
     let mut state = start;
     for (place, setting) in settings.iter().enumerate() {

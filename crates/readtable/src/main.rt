@@ -1,4 +1,6 @@
 // Reads a table file from standard input and prints what it holds, or its refusal.
+#![tactic(auto)]
+
 use std::io;
 use std::io::Read;
 use table::listing::{MOST_BYTES, listing};

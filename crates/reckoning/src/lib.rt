@@ -1,4 +1,6 @@
 // Reckonings of worth: what a list of marks is worth, in grains, from below and from above.
+#![tactic(auto)]
+
 pub mod fault;
 mod grains;
 pub mod joinings;

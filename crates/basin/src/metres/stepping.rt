@@ -128,7 +128,7 @@ impl Basin {
 }
 
 // A basin as a model, whose states are the bits of its waters.
-pub impl Model for Basin as BasinModel {
+impl Model for Basin {
     type State = WaterBits;
 
     ghost meaning = { λ b. basin (parameters b) };

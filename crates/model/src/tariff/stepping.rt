@@ -3,7 +3,7 @@ ghost use Rattle.model.specs.Tariffs.{tariff, hours, charged, hour_after};
 ghost use Rattle.std.proofs.Common.{rules, arith};
 
 use crate::fault::ModelFault;
-use crate::questions::Model;
+use crate::questions::Model as PlantModel;
 use crate::tariff::{HOURS, Tariff};
 
 // The hour after this one; after 23 comes 0.
@@ -26,10 +26,10 @@ fn charged(charges: &[u16; 24], hour: u8, setting: u8, mark: u16) -> u16
     }
 }
 
-pub impl<M: Model> Model for Tariff<M> as TariffModel {
+impl<M: PlantModel> PlantModel for Tariff<M> {
     type State = (u8, M::State);
 
-    ghost meaning = { λ t. tariff t.charges (M.Model.meaning t.model) };
+    ghost meaning = { λ t. tariff t.charges (M.meaning t.model) };
 
     ghost lawful = { first_of (Prim.search rules, Prim.grind (arith, Self.row.coded.inj)) };
 

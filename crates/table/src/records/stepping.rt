@@ -5,7 +5,7 @@ ghost use Rattle.table.specs.Lawful.{table_laws};
 use crate::records::Table;
 use model::{Model, ModelFault};
 
-pub impl Model for Table as TableModel {
+impl Model for Table {
     type State = u16;
 
     ghost meaning = { λ t. table (file t) };
