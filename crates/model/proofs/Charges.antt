@@ -1,12 +1,11 @@
 -- Making a tariff decides whether every charge is in range.
-use Rattle.std.proofs.Common.{◌≡◌, ℕ, zero, suc, ◌+◌, ◌<◌, true, List, [], ◌∷◌, map, length, get_or, Some, None, Ok, Err, Option, Result, sym, refl, ap, ◌∙◌, subst, arith}
+use Rattle.std.proofs.Common.{◌≡◌, ℕ, zero, suc, ◌<◌, true, List, [], ◌∷◌, map, length, get_or, Some, None, Ok, Err, Option, Result, sym, refl, ap, ◌∙◌, subst, arith}
 use Rattle.std.proofs.lemmas.List.{length-map}
 use Rattle.std.proofs.lemmas.Bool.{leb-true, le-leb, both_ways, false≢true}
-use Rattle.model.specs.First.{first_false}
-use Rattle.model.specs.TariffMaking.{ChargeInRange, charge_in_range, first_high_charge, refused_at, made_tariff, parts, Makes, charge_hour}
+use Rattle.model.specs.TariffMaking.{ChargeInRange, charge_in_range, first_high_charge, refused_at, made_tariff, parts, Makes}
 use Rattle.model.specs.declared.tariff.BadCharge.{BadCharge}
 use Rattle.model.specs.declared.tariff.Tariff.{Tariff}
-use Rattle.model.proofs.Firsts.{each_passes, First, found_first}
+use Rattle.model.proofs.Firsts.{each_passes, found_first}
 
 -- the test at an hour is the test of its charge
 tested : (charges : List ℕ) (h : ℕ) → get_or (map charge_in_range charges) h true ≡ charge_in_range (get_or charges h 0)

@@ -1,4 +1,4 @@
-use Rattle.std.proofs.Common.{sym, refl, ap}
+use Rattle.std.proofs.Common.{sym, ap}
 use Rattle.model.specs.TariffMaking.{refused_at}
 use Rattle.model.proofs.Charges.{all_in_range, makes}
 use Rattle.model.proofs.tariff.Tariff.new.Goals as goal

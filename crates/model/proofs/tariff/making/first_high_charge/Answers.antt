@@ -1,4 +1,4 @@
-use Rattle.std.proofs.Common.{◌≡◌, ℕ, ◌+◌, ◌<◌, ◌≤◌, length, Some, sym, ap, ◌∙◌, arith}
+use Rattle.std.proofs.Common.{◌≡◌, ◌+◌, ◌<◌, ◌≤◌, length, Some, sym, ap, ◌∙◌, arith}
 use Rattle.model.specs.TariffMaking.{charge_in_range}
 use Rattle.model.proofs.Firsts.{first_more, first_found, first_none}
 use Rattle.model.proofs.tariff.making.first_high_charge.Goals as goal
