@@ -14,8 +14,8 @@ fn last_mark(marks: &[u16]) -> Option<(&u16, &[u16])>
 
 // The low worth of a list of marks, in grains: joined from the last mark to the first, beginning with 0.
 pub fn low_worth<R: Reckoning>(reckoning: &R, marks: &[u16]) -> u64
-    ensures value { result ≡ low_worth (meaning reckoning.now) marks.now }
-    ensures at_most_exact { LowAtMostExact (meaning reckoning.now) marks.now }
+    ensures value { result ≡ low_worth (R.meaning reckoning.now) marks.now }
+    ensures at_most_exact { LowAtMostExact (R.meaning reckoning.now) marks.now }
 {
     let mut worth = 0;
     let mut left = marks;
@@ -28,10 +28,10 @@ pub fn low_worth<R: Reckoning>(reckoning: &R, marks: &[u16]) -> u64
 
 // The high worth of a list of marks, in grains: joined from the last mark to the first, beginning with the ceiling.
 pub fn high_worth<R: Reckoning>(reckoning: &R, marks: &[u16]) -> u64
-    ensures value { result ≡ high_worth (meaning reckoning.now) marks.now }
-    ensures at_least_exact { ExactAtMostHigh (meaning reckoning.now) marks.now }
-    ensures at_least_any_continuation { ContinuedAtMostHigh (meaning reckoning.now) marks.now }
-    ensures exact_at_most_ceiling { ExactAtMostCeiling (meaning reckoning.now) marks.now }
+    ensures value { result ≡ high_worth (R.meaning reckoning.now) marks.now }
+    ensures at_least_exact { ExactAtMostHigh (R.meaning reckoning.now) marks.now }
+    ensures at_least_any_continuation { ContinuedAtMostHigh (R.meaning reckoning.now) marks.now }
+    ensures exact_at_most_ceiling { ExactAtMostCeiling (R.meaning reckoning.now) marks.now }
 {
     let mut worth = reckoning.ceiling();
     let mut left = marks;
@@ -52,8 +52,8 @@ fn one_deeper(discount: u16, width: u64) -> u64
 
 // The width at a depth, in grains: the ceiling at 0, and one deeper for each step of depth.
 pub fn width<R: Reckoning>(reckoning: &R, depth: u8) -> u64
-    ensures value { result ≡ width_at (meaning reckoning.now) depth }
-    ensures worths_within_width { WorthsWithinWidth (meaning reckoning.now) depth }
+    ensures value { result ≡ width_at (R.meaning reckoning.now) depth }
+    ensures worths_within_width { WorthsWithinWidth (R.meaning reckoning.now) depth }
 {
     let mut width = reckoning.ceiling();
     for _ in 0..depth {

@@ -9,14 +9,14 @@ loop-mark-smaller g c = fewer_left c.loop-mark.left.now c.in-Some.before.now c.i
 pub loop-mark-preserved : goal.loop-mark-preserved
 loop-mark-preserved g c =
     let m = g.R.Reckoning.meaning c.args.reckoning.now in
-    joined_more m.high c.loop-mark.worth c.high_worth.result c.in-Some.mark.now (high_worth m c.args.marks.now) c.loop-mark.left.now c.in-Some.before.now c.in-Some.ensures c.high_worth.ensures c.loop-mark.invariant
+    joined_more m.high c.loop-mark.worth c.high-worth.result c.in-Some.mark.now (high_worth m c.args.marks.now) c.loop-mark.left.now c.in-Some.before.now c.in-Some.ensures c.high-worth.ensures c.loop-mark.invariant
 
 pub returns : goal.returns
 returns g c =
     let m = g.R.Reckoning.meaning c.args.reckoning.now in
     let laws = g.met.R.Reckoning.lawful c.args.reckoning.now in
     record {
-      value = joined_all m.high c.loop-mark.worth (high_worth m c.args.marks.now) c.loop-mark.left.now c.in-default.ensures c.loop-mark.invariant;
+      value = joined_all m.high c.loop-mark.worth (high_worth m c.args.marks.now) c.loop-mark.left.now c.in_default.ensures c.loop-mark.invariant;
       at_least_exact = exact_at_most_high m laws c.args.marks.now;
       at_least_any_continuation = continued_at_most_high m laws c.args.marks.now;
       exact_at_most_ceiling = exact_at_most_ceiling m laws c.args.marks.now;

@@ -9,13 +9,13 @@ loop-mark-smaller g c = fewer_left c.loop-mark.left.now c.in-Some.before.now c.i
 pub loop-mark-preserved : goal.loop-mark-preserved
 loop-mark-preserved g c =
     let m = g.R.Reckoning.meaning c.args.reckoning.now in
-    joined_more m.low c.loop-mark.worth c.low_worth.result c.in-Some.mark.now (low_worth m c.args.marks.now) c.loop-mark.left.now c.in-Some.before.now c.in-Some.ensures c.low_worth.ensures c.loop-mark.invariant
+    joined_more m.low c.loop-mark.worth c.low-worth.result c.in-Some.mark.now (low_worth m c.args.marks.now) c.loop-mark.left.now c.in-Some.before.now c.in-Some.ensures c.low-worth.ensures c.loop-mark.invariant
 
 pub returns : goal.returns
 returns g c =
     let m = g.R.Reckoning.meaning c.args.reckoning.now in
     let laws = g.met.R.Reckoning.lawful c.args.reckoning.now in
     record {
-      value = joined_all m.low c.loop-mark.worth (low_worth m c.args.marks.now) c.loop-mark.left.now c.in-default.ensures c.loop-mark.invariant;
+      value = joined_all m.low c.loop-mark.worth (low_worth m c.args.marks.now) c.loop-mark.left.now c.in_default.ensures c.loop-mark.invariant;
       at_most_exact = low_at_most_exact m laws c.args.marks.now;
     }

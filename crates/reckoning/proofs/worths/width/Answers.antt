@@ -4,8 +4,8 @@ use Rattle.reckoning.specs.Worths.{width, one_deeper}
 use Rattle.reckoning.proofs.WorthBounds.{width_in_range, worths_within_width}
 use Rattle.reckoning.proofs.worths.width.Goals as goal
 
-pub one-deeper-width-requires : goal.one-deeper-width-requires
-one-deeper-width-requires g c =
+pub one_deeper-width-requires : goal.one_deeper-width-requires
+one_deeper-width-requires g c =
     let m = g.R.Reckoning.meaning c.args.reckoning.now in
     let laws = g.met.R.Reckoning.lawful c.args.reckoning.now in
     (subst (λ x. x < whole) (sym c.discount.ensures) laws.discount_below_whole, subst (λ x. x ≤ highest_ceiling) (sym c.loop.invariant) (width_in_range m laws c.loop.counter))
@@ -14,7 +14,7 @@ pub loop-preserved : goal.loop-preserved
 loop-preserved g c =
     let m = g.R.Reckoning.meaning c.args.reckoning.now in
     let deeper : suc c.loop.counter ≡ c.loop.counter + 1 = omega arith in
-    c.one-deeper-width.ensures ∙ ap (λ x. one_deeper x c.loop.width) c.discount.ensures ∙ ap (one_deeper m.discount) c.loop.invariant ∙ ap (width m) deeper
+    c.one_deeper-width.ensures ∙ ap (λ x. one_deeper x c.loop.width) c.discount.ensures ∙ ap (one_deeper m.discount) c.loop.invariant ∙ ap (width m) deeper
 
 pub returns : goal.returns
 returns g c =
