@@ -1,5 +1,5 @@
 -- Each expansion adds one expanded node, keeps every path within the limits, and leaves a leaf.
-use Rattle.std.proofs.Common.{◌≡◌, ℕ, zero, suc, ◌+◌, ◌-◌, ◌<◌, ◌≤◌, Bool, true, false, cond, eqb, ltb, ◌⊎◌, List, [], ◌∷◌, ◌++◌, length, get_or, set, Some, None, Ok, Err, Option, Result, sym, refl, ap, ◌∙◌, subst, inl, inr, ⊎_elim, arith, length-append, length-set}
+use Rattle.std.proofs.Common.{◌≡◌, ℕ, zero, suc, ◌+◌, ◌-◌, ◌<◌, ◌≤◌, Bool, true, false, cond, eqb, ltb, List, [], ◌∷◌, ◌++◌, length, get_or, set, Some, None, Ok, Option, Result, sym, refl, ap, ◌∙◌, inl, arith, length-append, length-set}
 use Rattle.std.specs.List.{AllByRecursion as All}
 use Rattle.std.proofs.lemmas.Bool.{cond_both, cond-true, cond-false, ne_eqb, true≢false}
 use Rattle.std.proofs.ByRecursion.{All-append, All-set, All-get_or}
@@ -8,7 +8,7 @@ use Rattle.model.specs.Meaning.{Meaning}
 use Rattle.reckoning.specs.Meaning.{Meaning as Reckoning}
 use Rattle.rules.specs.Limits.{greatest_depth}
 use Rattle.rules.specs.Sequences.{Start, Allowed, Below}
-use Rattle.rules.specs.Trees.{Node, depth, root, node, child, allows_child, children, closed, expand, first_refusal}
+use Rattle.rules.specs.Trees.{Node, depth, root, node, child, allows_child, children, closed, first_refusal}
 use Rattle.rules.specs.Leaves.{Any, Leaf, next_leaf, high_of, expansions, expand_next, expanded_by}
 use Rattle.rules.specs.Work.{is_near, refused_by, ending, ended_or, work, Worked, ExpandsAndCounts}
 use Rattle.rules.specs.Mixed.{PathWithin, ExpansionsCounted}

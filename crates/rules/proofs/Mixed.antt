@@ -1,5 +1,5 @@
 -- What every station keeps since its making, whatever models and reckonings its calls are handed.
-use Rattle.std.proofs.Common.{◌≡◌, ℕ, zero, suc, ◌+◌, ◌-◌, ◌<◌, ◌≤◌, Bool, true, false, cond, eqb, ltb, ◌⊎◌, List, [], ◌∷◌, ◌++◌, length, get_or, take, set, Some, None, Ok, Err, Option, Result, sym, refl, ap, ◌∙◌, subst, inl, inr, ⊎_elim, arith, length-append, length-set, length-take}
+use Rattle.std.proofs.Common.{◌≡◌, ℕ, zero, suc, ◌-◌, ◌<◌, ◌≤◌, Bool, true, false, cond, eqb, ltb, List, [], ◌∷◌, ◌++◌, length, get_or, take, set, Some, None, Ok, Option, Result, sym, refl, ap, ◌∙◌, subst, inl, ⊎_elim, arith, length-append, length-set, length-take}
 use Rattle.std.specs.List.{AllByRecursion as All}
 use Rattle.std.proofs.lemmas.Bool.{cond_both, eqb-false, ltb-false, cases_eq, cases_lt}
 use Rattle.std.proofs.ByRecursion.{All-append, All-set, All-weaker, All-get_or, All-take}
@@ -8,11 +8,11 @@ use Rattle.model.specs.Meaning.{Meaning, Laws}
 use Rattle.reckoning.specs.Meaning.{Meaning as Reckoning}
 use Rattle.reckoning.specs.Worths.{low_worth, high_worth}
 use Rattle.rules.specs.Limits.{greatest_depth, most_kept, most_rows, most_node_cells}
-use Rattle.rules.specs.Sequences.{Start, Allowed, Below, last_setting}
+use Rattle.rules.specs.Sequences.{Start, Allowed, Below}
 use Rattle.rules.specs.Trees.{Node, depth, root, node, child, children, closed, first_refusal}
 use Rattle.rules.specs.Leaves.{Any, Leaf, best_leaf, next_leaf, low_of, high_of, plan, expand_next}
 use Rattle.rules.specs.Work.{is_near, refused_by, ending, ended_or, work, Worked}
-use Rattle.rules.specs.Station.{Search, Station, View, Closed, Live, settings_of, rows_of, ready, made}
+use Rattle.rules.specs.Station.{Search, Station, View, Closed, Live, settings_of, rows_of, made}
 use Rattle.rules.specs.Calls.{Call, begin_call, work_call, take_call, abandon_call, issue_call, observe_call, row_call, outcome, after, replaces, planned_rows, rows_taken, one_less_kept, issue_leaves}
 use Rattle.rules.specs.Runs.{Turn, run, OnOpen}
 use Rattle.rules.specs.Mixed.{OnLive, UnderAnyMix, PathWithin, SearchWithin, WithinLimits, ChildOf, TreeGrown, PathsGrown, Reckoned, WorthsOfOwnMarks, WorkCounted}
@@ -21,7 +21,7 @@ use Rattle.rules.specs.declared.answers.Stop.{Stop}
 use Rattle.rules.specs.declared.answers.Stop.TheVariants.{Near, Spent, Deep, Full}
 use Rattle.rules.specs.declared.fault.StepFault.{StepFault}
 use Rattle.rules.proofs.Sequences.{nothing_allowed, last_below}
-use Rattle.rules.proofs.Leaves.{any_map, any_out, all_there, best_leaf_is}
+use Rattle.rules.proofs.Leaves.{any_map, all_there, best_leaf_is}
 use Rattle.rules.proofs.Trees.{children_all}
 use Rattle.rules.proofs.CallCases.{made_cases, begun_cases, worked_cases, taken_cases, abandoned_cases, issued_cases, observed_cases}
 use Rattle.rules.proofs.Counting.{length_expanded, expansion_leaves_leaf, expansion_within, work_counts}

@@ -1,16 +1,16 @@
 -- From the first granted take on, what was issued followed by what is planned stays within that take's gap.
-use Rattle.std.proofs.Common.{◌≡◌, ℕ, ◌+◌, ◌*◌, ◌^◌, ◌<◌, ◌≤◌, Bool, true, false, cond, ltb, List, [], ◌∷◌, ◌++◌, length, take, drop, Some, None, Ok, Err, Option, Result, sym, refl, ap, ◌∙◌, subst, append_assoc, append-nil, le_trans, le_refl, mul-le-mul_right, arith, take-append-drop}
-use Rattle.std.proofs.lemmas.Bool.{leb-true, leb-false, cond_both, ltb-true}
-use Rattle.model.specs.Meaning.{Meaning, Laws, step}
+use Rattle.std.proofs.Common.{◌≡◌, ℕ, ◌+◌, ◌*◌, ◌^◌, ◌≤◌, ltb, List, [], ◌∷◌, ◌++◌, length, take, drop, Some, None, Ok, Err, Option, Result, sym, refl, ap, ◌∙◌, subst, append_assoc, append-nil, le_trans, le_refl, mul-le-mul_right, arith, take-append-drop}
+use Rattle.std.proofs.lemmas.Bool.{leb-true, leb-false, cond_both}
+use Rattle.model.specs.Meaning.{Meaning, Laws}
 use Rattle.reckoning.specs.Grains.{whole}
 use Rattle.reckoning.specs.Meaning.{Meaning as Reckoning, Laws as ReckoningLaws}
 use Rattle.reckoning.specs.Worths.{low_worth, exact_worth, AreMarks}
 use Rattle.reckoning.proofs.WorthBounds.{low_at_most_exact}
 use Rattle.rules.specs.Sequences.{Start, Allowed, last_setting, marks_along, end_along}
-use Rattle.rules.specs.Trees.{Node, or_else}
+use Rattle.rules.specs.Trees.{or_else}
 use Rattle.rules.specs.Leaves.{plan, promise, gap}
 use Rattle.rules.specs.Station.{Search, Station, View, Closed, Live, settings_of, marks_of, rows_of, ready, made}
-use Rattle.rules.specs.Calls.{Outcome, Call, begin_call, work_call, take_call, abandon_call, issue_call, observe_call, row_call, Answer, outcome, answer, after, kept_settings, start_at, begin_leaves, work_leaves, with_search, standing, replaces, planned_rows, rows_taken, take_answer, take_leaves, issue_leaves}
+use Rattle.rules.specs.Calls.{Outcome, Call, begin_call, work_call, take_call, abandon_call, issue_call, observe_call, row_call, Answer, outcome, answer, after, kept_settings, with_search, standing, replaces, planned_rows, rows_taken, take_leaves, issue_leaves}
 use Rattle.rules.specs.Runs.{all_with, run, mark_given, gap_given, marks_issued, first_gap, marks_planned, ObservesNothingElse, NeverMoved, OnOpen}
 use Rattle.rules.specs.Gap.{BeatsByAtMost, FirstGapCoversIssuedAndPlanned}
 use Rattle.rules.specs.declared.answers.Report.{Report}

@@ -1,13 +1,13 @@
 -- A refused call changes nothing, except that work keeps earlier expansions.
-use Rattle.std.proofs.Common.{◌≡◌, ℕ, zero, suc, ◌⊎◌, List, Some, None, Ok, Err, Option, Result, sym, refl, ap, ◌∙◌, inl, inr, arith}
+use Rattle.std.proofs.Common.{◌≡◌, ℕ, zero, suc, ◌⊎◌, List, Some, None, Ok, Err, Option, Result, refl, ap, inl, inr, arith}
 use Rattle.model.specs.Meaning.{Meaning}
 use Rattle.reckoning.specs.Meaning.{Meaning as Reckoning}
 use Rattle.rules.specs.Sequences.{Start}
 use Rattle.rules.specs.Trees.{Node}
 use Rattle.rules.specs.Leaves.{expand_next, expanded_by}
 use Rattle.rules.specs.Work.{ending, ended_or, work, Worked}
-use Rattle.rules.specs.Station.{Search, Station, View, Closed, Live}
-use Rattle.rules.specs.Calls.{Outcome, Call, begin_call, work_call, take_call, abandon_call, issue_call, observe_call, row_call, Answer, outcome, work_leaves, answer, after}
+use Rattle.rules.specs.Station.{Station, View, Closed, Live}
+use Rattle.rules.specs.Calls.{Outcome, Call, begin_call, work_call, take_call, abandon_call, issue_call, observe_call, row_call, outcome, work_leaves}
 use Rattle.rules.specs.Refused.{SomeExpansions, LeftByRefusal, RefusalsChangeNothing}
 use Rattle.rules.specs.declared.answers.Stop.{Stop}
 use Rattle.rules.specs.declared.answers.Stop.TheVariants.{Spent}

@@ -1,5 +1,5 @@
 -- Rows along a model, and what is left of them as the first is issued.
-use Rattle.std.proofs.Common.{◌≡◌, ℕ, zero, suc, ◌+◌, ◌-◌, ◌<◌, ◌≤◌, true, List, [], ◌∷◌, ◌++◌, length, take, drop, Some, Option, sym, refl, ap, ◌∙◌, subst, arith}
+use Rattle.std.proofs.Common.{◌≡◌, ℕ, zero, suc, ◌-◌, ◌<◌, true, List, [], ◌∷◌, ◌++◌, take, drop, Some, Option, refl, ap, arith}
 use Rattle.std.specs.List.{AllByRecursion as All}
 use Rattle.model.specs.Meaning.{Meaning, Laws}
 use Rattle.reckoning.specs.Worths.{AreMarks}

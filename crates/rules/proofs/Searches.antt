@@ -1,10 +1,10 @@
 -- Every search promises what it says, from any idle station, under any calls with one model and one reckoning.
-use Rattle.std.proofs.Common.{◌≡◌, ℕ, zero, suc, ◌+◌, ◌-◌, ◌<◌, ◌≤◌, Bool, true, false, eqb, ltb, List, [], ◌∷◌, length, take, Some, None, Ok, Err, Option, Result, sym, refl, ap, ◌∙◌, subst, arith}
+use Rattle.std.proofs.Common.{◌≡◌, ℕ, zero, suc, ◌-◌, ◌≤◌, true, false, ltb, List, [], ◌∷◌, length, take, Some, None, Ok, Option, Result, sym, refl, ap, ◌∙◌, subst, arith}
 use Rattle.std.proofs.lemmas.Bool.{ltb-true, eqb-false}
-use Rattle.model.specs.Meaning.{Meaning, Laws, step}
+use Rattle.model.specs.Meaning.{Meaning, Laws}
 use Rattle.reckoning.specs.Meaning.{Meaning as Reckoning, Laws as ReckoningLaws}
 use Rattle.rules.specs.Sequences.{Start, Below, last_setting, end_along}
-use Rattle.rules.specs.Trees.{Node, root}
+use Rattle.rules.specs.Trees.{Node}
 use Rattle.rules.specs.Leaves.{expand_next}
 use Rattle.rules.specs.Work.{ending, ended_or, work, Worked}
 use Rattle.rules.specs.Station.{Search, Station, View, Closed, Live, settings_of, ready, made}

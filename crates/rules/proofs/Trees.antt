@@ -1,5 +1,5 @@
 -- What every tree keeps that grows from a start, with one model and one reckoning.
-use Rattle.std.proofs.Common.{◌≡◌, ℕ, zero, suc, ◌+◌, ◌-◌, ◌*◌, ◌^◌, ◌<◌, ◌≤◌, max, Bool, true, false, cond, ◌⊎◌, List, [], ◌∷◌, ◌++◌, length, get_or, set, Option, sym, refl, ap, ◌∙◌, subst, inl, inr, ⊎_elim, append_assoc, append-nil, le_trans, le_refl, mul-le-mul_right, arith}
+use Rattle.std.proofs.Common.{◌≡◌, ℕ, zero, suc, ◌+◌, ◌-◌, ◌*◌, ◌^◌, ◌<◌, ◌≤◌, max, true, cond, ◌⊎◌, List, [], ◌∷◌, ◌++◌, length, set, sym, refl, ap, ◌∙◌, subst, inl, inr, ⊎_elim, append_assoc, append-nil, le_trans, mul-le-mul_right, arith}
 use Rattle.std.specs.List.{AllByRecursion as All}
 use Rattle.std.proofs.lemmas.Bool.{cond_both, cond-true, true≢false, false≢true, cases_lt}
 use Rattle.std.proofs.ByRecursion.{All-append, All-set, All-weaker, All-get_or}
@@ -8,7 +8,7 @@ use Rattle.reckoning.specs.Grains.{whole}
 use Rattle.reckoning.specs.Meaning.{Meaning as Reckoning, Laws as ReckoningLaws}
 use Rattle.reckoning.specs.Worths.{low_worth, high_worth, exact_worth, width, AreMarks}
 use Rattle.reckoning.proofs.WorthBounds.{high_below_ceiling, low_at_most_exact, continued_at_most_high, worths_within_width}
-use Rattle.rules.specs.Sequences.{Start, Allowed, Below, allows, marks_along, end_along}
+use Rattle.rules.specs.Sequences.{Start, Allowed, Below, marks_along, end_along}
 use Rattle.rules.specs.Trees.{Node, depth, root, node, child, allows_child, children, closed, expand}
 use Rattle.rules.specs.Leaves.{Any, Leaf, greatest, best_leaf, next_leaf, low_of, high_of, plan, promise, gap, reach, expand_next}
 use Rattle.rules.proofs.Worths.{high_falls, low_rises, front_at_most_high}

@@ -1,5 +1,5 @@
 -- Worths of longer lists, from the laws of a reckoning.
-use Rattle.std.proofs.Common.{ℕ, ◌+◌, ◌*◌, ◌^◌, ◌≤◌, List, [], ◌∷◌, ◌++◌, length, arith}
+use Rattle.std.proofs.Common.{ℕ, ◌*◌, ◌^◌, ◌≤◌, List, [], ◌∷◌, ◌++◌, length, arith}
 use Rattle.std.proofs.ByRecursion.{All-append}
 use Rattle.model.specs.Meaning.{highest_mark}
 use Rattle.reckoning.specs.Grains.{whole}

@@ -1,5 +1,5 @@
 -- The seven calls of a station: each is one definition that gives the answer and the station after it.
-use Rattle.std.specs.Prelude.{◌≡◌, ℕ, ◌-◌, Bool, true, false, cond, not, ◌||◌, List, [], ◌∷◌, ◌++◌, length, take, drop, Some, None, Ok, Err, Option, Result, ◌==◌, nat_le, nat_lt, slice_index}
+use Rattle.std.specs.Prelude.{ℕ, ◌-◌, Bool, false, cond, ◌||◌, List, [], ◌∷◌, ◌++◌, length, take, drop, Some, None, Ok, Err, Option, Result, ◌==◌, nat_le, nat_lt, slice_index}
 use Rattle.model.specs.Meaning.{Meaning, step}
 use Rattle.model.specs.Walk.{walk}
 use Rattle.model.specs.declared.fault.ModelFault.{ModelFault}
@@ -11,7 +11,7 @@ use Rattle.rules.specs.Faults.{refusal, step_refused, shut_by, step_at, other_se
 use Rattle.rules.specs.Sequences.{Start, last_setting}
 use Rattle.rules.specs.Trees.{Node, root}
 use Rattle.rules.specs.Leaves.{plan, promise, gap, reach, expansions}
-use Rattle.rules.specs.Work.{Worked, work}
+use Rattle.rules.specs.Work.{work}
 use Rattle.rules.specs.Station.{Search, Station, View, Closed, Live, settings_of, marks_of, rows_of, row_at, is_open}
 use Rattle.rules.specs.declared.answers.Report.{Report}
 use Rattle.rules.specs.declared.answers.Row.{Row}

@@ -4,9 +4,9 @@ use Rattle.model.specs.Meaning.{Meaning}
 use Rattle.reckoning.specs.Grains.{whole}
 use Rattle.reckoning.specs.Meaning.{Meaning as Reckoning}
 use Rattle.reckoning.specs.Worths.{exact_worth, width}
-use Rattle.rules.specs.Sequences.{Start, Allowed, Below, marks_along, end_along}
+use Rattle.rules.specs.Sequences.{Allowed, Below, marks_along, end_along}
 use Rattle.rules.specs.Leaves.{plan, promise, gap, reach}
-use Rattle.rules.specs.Station.{Search, Station, View, Closed, Live, made}
+use Rattle.rules.specs.Station.{Search, Station, Live, made}
 use Rattle.rules.specs.Calls.{Call, kept_settings, start_at}
 use Rattle.rules.specs.Runs.{all_with, run, marks_issued, first_gap, marks_planned, NeverMoved, WheneverOpen}
 

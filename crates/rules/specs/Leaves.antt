@@ -1,9 +1,9 @@
 -- Leaves: which one is expanded next, which one the plan leads to, and what follows from them.
-use Rattle.std.specs.Prelude.{◌≡◌, ℕ, zero, suc, ◌+◌, ◌-◌, ◌<◌, ◌≤◌, max, Bool, true, false, cond, not, ◌&&◌, ◌⊎◌, List, [], ◌∷◌, length, ◌==◌, ◌≢◌, slice_index_or}
+use Rattle.std.specs.Prelude.{◌≡◌, ℕ, zero, suc, ◌-◌, ◌<◌, ◌≤◌, max, false, cond, not, ◌&&◌, ◌⊎◌, List, [], ◌∷◌, length, ◌==◌, ◌≢◌, slice_index_or}
 use Rattle.model.specs.Meaning.{Meaning}
 use Rattle.reckoning.specs.Meaning.{Meaning as Reckoning}
 use Rattle.rules.specs.Sequences.{Start}
-use Rattle.rules.specs.Trees.{Node, depth, root, node, expand}
+use Rattle.rules.specs.Trees.{Node, depth, node, expand}
 
 -- a leaf is a node not yet expanded
 abbrev pub Leaf : {S : Type 0} → Node S → Type 0

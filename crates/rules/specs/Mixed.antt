@@ -7,11 +7,10 @@ use Rattle.reckoning.specs.Worths.{low_worth, high_worth}
 use Rattle.rules.specs.Limits.{greatest_depth, most_kept, most_rows, most_node_cells}
 use Rattle.rules.specs.Sequences.{Start, Allowed, Below}
 use Rattle.rules.specs.Trees.{Node, depth, root}
-use Rattle.rules.specs.Leaves.{Any, Leaf, expansions, expand_next, expanded_by}
+use Rattle.rules.specs.Leaves.{Any, Leaf, expansions, expanded_by}
 use Rattle.rules.specs.Work.{work, ExpandsAndCounts}
 use Rattle.rules.specs.Station.{Search, Station, View, Closed, Live, made}
 use Rattle.rules.specs.Runs.{Turn, run, OnOpen}
-use Rattle.rules.specs.declared.answers.Row.{Row}
 
 -- Something is so of every station that a making and calls can reach: the making is by a lawful model, and each call is
 -- handed any model and any reckoning.

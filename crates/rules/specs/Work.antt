@@ -1,5 +1,5 @@
 -- Work on a search: expansions until a stop.
-use Rattle.std.specs.Prelude.{◌≡◌, ℕ, zero, suc, ◌+◌, ◌-◌, ◌≤◌, Bool, true, false, cond, List, length, Some, None, Ok, Err, Option, Result, ◌==◌, nat_le, nat_lt}
+use Rattle.std.specs.Prelude.{◌≡◌, ℕ, zero, suc, ◌+◌, ◌-◌, ◌≤◌, Bool, false, cond, List, length, Some, None, Ok, Err, Option, Result, ◌==◌, nat_le, nat_lt}
 use Rattle.model.specs.Meaning.{Meaning}
 use Rattle.reckoning.specs.Meaning.{Meaning as Reckoning}
 use Rattle.rules.specs.Limits.{greatest_depth}

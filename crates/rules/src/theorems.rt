@@ -9,12 +9,12 @@ use reckoning::Reckoning;
 
 // Does nothing: its contract says what a gap is worth, for this model and this reckoning in every call.
 pub fn no_allowed_plan_beats_the_gap<M: Model, R: Reckoning>(model: &M, reckoning: &R)
-    ensures no_sequence_above_promise_and_gap { InEverySearch (M.Model.meaning model.now) (R.Reckoning.meaning reckoning.now) NoSequenceAbovePromiseAndGap }
-    ensures plan_allowed { InEverySearch (M.Model.meaning model.now) (R.Reckoning.meaning reckoning.now) PlanAllowed }
-    ensures plan_worth_at_least_promise { InEverySearch (M.Model.meaning model.now) (R.Reckoning.meaning reckoning.now) PlanWorthAtLeastPromise }
-    ensures gap_within_width_at_reach { InEverySearch (M.Model.meaning model.now) (R.Reckoning.meaning reckoning.now) GapWithinWidthAtReach }
-    ensures starts_at_predicted_end { InEverySearch (M.Model.meaning model.now) (R.Reckoning.meaning reckoning.now) StartsAtPredictedEnd }
-    ensures first_gap_covers_issued_and_planned { FirstGapCoversIssuedAndPlanned (M.Model.meaning model.now) (R.Reckoning.meaning reckoning.now) }
+    ensures no_sequence_above_promise_and_gap { InEverySearch (M.meaning model.now) (R.meaning reckoning.now) NoSequenceAbovePromiseAndGap }
+    ensures plan_allowed { InEverySearch (M.meaning model.now) (R.meaning reckoning.now) PlanAllowed }
+    ensures plan_worth_at_least_promise { InEverySearch (M.meaning model.now) (R.meaning reckoning.now) PlanWorthAtLeastPromise }
+    ensures gap_within_width_at_reach { InEverySearch (M.meaning model.now) (R.meaning reckoning.now) GapWithinWidthAtReach }
+    ensures starts_at_predicted_end { InEverySearch (M.meaning model.now) (R.meaning reckoning.now) StartsAtPredictedEnd }
+    ensures first_gap_covers_issued_and_planned { FirstGapCoversIssuedAndPlanned (M.meaning model.now) (R.meaning reckoning.now) }
 {}
 
 // Does nothing: its contract has the laws of what a switch limit allows. A front of an allowed sequence

@@ -3,4 +3,4 @@ use Rattle.rules.proofs.Mixed.{work_counted}
 use Rattle.rules.proofs.theorems.n_expansions_expand_n_nodes.Goals as goal
 
 pub returns : goal.returns
-returns g c = record { from-a-start = expansions_counted _; by-every-work = work_counted }
+returns g c = record { from_a_start = expansions_counted _; by_every_work = work_counted }
