@@ -6,7 +6,7 @@ ghost use Rattle.basin.specs.Basins.{basin_laws};
 
 use crate::metres::ranges::within;
 use crate::metres::{Basin, CostedSetting, Setting, Water, WaterBits};
-use model::{Model, ModelFault};
+use model::{Model as PlantModel, ModelFault};
 
 // The greatest inflow that is known, in metres a step.
 const LARGEST_INFLOW: f64 = 10.0;
@@ -128,7 +128,7 @@ impl Basin {
 }
 
 // A basin as a model, whose states are the bits of its waters.
-impl Model for Basin {
+impl PlantModel for Basin {
     type State = WaterBits;
 
     ghost meaning = { λ b. basin (parameters b) };
