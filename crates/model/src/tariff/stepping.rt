@@ -1,6 +1,6 @@
 ghost use Rattle.std.specs.Prelude.{◌≡◌, ◌<◌};
 ghost use Rattle.model.specs.Tariffs.{tariff, hours, charged, hour_after};
-ghost use Rattle.std.proofs.Common.{rules, arith};
+ghost use Rattle.std.proofs.Common.{rules};
 
 use crate::fault::ModelFault;
 use crate::questions::Model as PlantModel;
@@ -31,7 +31,7 @@ impl<M: PlantModel> PlantModel for Tariff<M> {
 
     ghost meaning = { λ t. tariff t.charges (M.meaning t.model) };
 
-    ghost lawful = { first_of (Prim.search rules, Prim.grind (arith, Self.row.coded.inj)) };
+    ghost lawful = { Prim.search rules };
 
     fn settings(&self) -> u8 {
         self.model.settings()
