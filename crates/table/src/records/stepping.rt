@@ -3,9 +3,9 @@ ghost use Rattle.table.specs.Tables.{file, table};
 ghost use Rattle.table.specs.Lawful.{table_laws};
 
 use crate::records::Table;
-use model::{Model, ModelFault};
+use model::{Model as PlantModel, ModelFault};
 
-impl Model for Table {
+impl PlantModel for Table {
     type State = u16;
 
     ghost meaning = { λ t. table (file t) };

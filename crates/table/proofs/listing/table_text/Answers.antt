@@ -7,7 +7,7 @@ use Rattle.table.proofs.listing.table_text.Goals as goal
 pub loop-i-preserved : goal.loop-i-preserved
 loop-i-preserved c =
     let f = file c.args.table.now in
-    let within : c.loop-i.i < f.states * f.settings = omega (arith, c.record-count-i-end.ensures) in
-    let added = ap (λ x. string_bytes c.loop-i.text ++ x) c.as-str.ensures.value in
-    lines_more f c.loop-i.i (shape_line f.states f.settings) (string_bytes c.loop-i.text) (string_bytes c.in-ok-line.line) (string_bytes c.push-str.new.self) within
-    c.loop-i.invariant c.in-ok-line.ensures (c.in-ok-push-str.ensures.bytes ∙ added)
+    let within : c.loop-i.i < f.states * f.settings = omega (arith, c.record_count-i-end.ensures) in
+    let added = ap (λ x. string_bytes c.loop-i.text ++ x) c.as_str.ensures.value in
+    lines_more f c.loop-i.i (shape_line f.states f.settings) (string_bytes c.loop-i.text) (string_bytes c.in_ok-line.line) (string_bytes c.push_str.new.self) within
+    c.loop-i.invariant c.in_ok-line.ensures (c.in_ok-push_str.ensures.bytes ∙ added)
