@@ -1,7 +1,7 @@
 -- What the laws of a reckoning give of whole lists of marks.
-use Rattle.std.proofs.Common.{◌≡◌, ℕ, zero, suc, ◌+◌, ◌-◌, ◌*◌, ◌^◌, ◌≤◌, List, [], ◌∷◌, ◌++◌, length, subst, le_trans, le_refl, mul-le-mul_right, mul-le-mul_left, arith}
+use Rattle.std.proofs.Common.{ℕ, zero, suc, ◌-◌, ◌*◌, ◌^◌, ◌≤◌, List, [], ◌∷◌, ◌++◌, length, subst, le_trans, le_refl, mul-le-mul_right, mul-le-mul_left, arith}
 use Rattle.model.specs.Meaning.{highest_mark}
-use Rattle.reckoning.specs.Grains.{whole, highest_ceiling, rounded_up}
+use Rattle.reckoning.specs.Grains.{whole, highest_ceiling}
 use Rattle.reckoning.specs.Meaning.{Meaning, Laws}
 use Rattle.reckoning.specs.Worths.{low_worth, high_worth, exact_worth, width, AreMarks, LowAtMostExact, ExactAtMostHigh, ContinuedAtMostHigh, ExactAtMostCeiling, WorthsWithinWidth}
 use Rattle.reckoning.specs.Roundings.{up_rises}

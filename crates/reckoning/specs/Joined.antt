@@ -5,7 +5,7 @@ use Rattle.std.proofs.Common.{sym, ap, ◌∙◌, le_refl, le_trans, mul_assoc, 
 use Rattle.std.proofs.Math.Nat.{pow-succ', min-eq_left, min-le_right}
 use Rattle.model.specs.Meaning.{highest_mark}
 use Rattle.reckoning.specs.Grains.{whole, highest_ceiling, grains_of, rounded_up}
-use Rattle.reckoning.specs.Meaning.{Meaning, Laws}
+use Rattle.reckoning.specs.Meaning.{Laws}
 use Rattle.reckoning.specs.Kinds.{joined_terms}
 use Rattle.reckoning.specs.Roundings.{down_rises, up_rises, down_below, up_above, up_of_sum}
 
