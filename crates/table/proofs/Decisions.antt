@@ -1,18 +1,18 @@
 -- Reading decides the rules of a table file, and an accepted table steps as its records say.
-use Rattle.std.proofs.Common.{◌≡◌, ℕ, ◌+◌, ◌*◌, ◌/◌, ◌%◌, ◌<◌, ◌≤◌, Bool, true, false, cond, ◌&&◌, eqb, ltb, leb, ◌⊎◌, List, length, is_ok, Some, None, Ok, Err, Option, Result, sym, refl, ap, ◌∙◌, subst, inl, inr, ⊎_elim, div-add-mod', arith}
+use Rattle.std.proofs.Common.{◌≡◌, ℕ, ◌+◌, ◌*◌, ◌/◌, ◌%◌, ◌<◌, ◌≤◌, Bool, true, false, cond, ◌&&◌, eqb, ltb, leb, List, length, Some, None, Ok, Err, Option, Result, sym, refl, ap, ◌∙◌, subst, inl, inr, div-add-mod', arith}
 use Rattle.std.proofs.lemmas.Nat.{div_below, mod_below}
-use Rattle.std.proofs.lemmas.Bool.{ltb-true, ltb-false, leb-true, leb-false, eqb-true, eqb-false, lt-ltb, le-leb, eq-eqb, and_parts, and_from, both_ways, false≢true, cond-true}
-use Rattle.model.specs.Meaning.{step, highest_mark}
+use Rattle.std.proofs.lemmas.Bool.{ltb-true, leb-true, eqb-true, lt-ltb, le-leb, eq-eqb, and_parts, and_from, both_ways, false≢true}
+use Rattle.model.specs.Meaning.{highest_mark}
 use Rattle.model.proofs.Walks.{step_granted}
 use Rattle.table.specs.Faults.{number, value as value_of_lem, refusal}
 use Rattle.table.specs.Layout.{record_bytes, record_at, count, last, states, settings}
-use Rattle.table.specs.Rules.{WholeRecords, Complete, InOrder, NextKnown, MarkInRange, SoundRecord, ObeysRules, RecordBreaks, FirstBroken}
+use Rattle.table.specs.Rules.{WholeRecords, Complete, InOrder, NextKnown, SoundRecord, ObeysRules, RecordBreaks, FirstBroken}
 use Rattle.table.specs.Reading.{File, whole, complete, record_fault, first_of, unless, shape, checked, with_bytes, read}
 use Rattle.table.specs.Tables.{file, file_read, table, StepsAsRecorded, Reads}
 use Rattle.table.specs.declared.fault.TableFault.{TableFault}
 use Rattle.table.specs.declared.records.reading.Shape.{Shape}
 use Rattle.table.specs.declared.records.Table.{Table}
-use Rattle.table.proofs.Firsts.{none_there, Found, found_there}
+use Rattle.table.proofs.Firsts.{none_there, found_there}
 
 -- one record
 

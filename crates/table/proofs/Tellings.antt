@@ -1,11 +1,11 @@
 -- The text for a file, in the words of the rules.
-use Rattle.std.proofs.Common.{◌≡◌, ℕ, ◌+◌, ◌%◌, ◌<◌, ◌≤◌, false, eqb, List, length, take, Ok, Err, Result, sym, refl, ap, ◌∙◌, subst, arith}
+use Rattle.std.proofs.Common.{◌≡◌, ℕ, ◌+◌, ◌%◌, ◌≤◌, false, eqb, List, length, take, Ok, Err, Result, refl, ap, ◌∙◌, arith}
 use Rattle.std.proofs.lemmas.List.{take_all, length-take-le}
 use Rattle.std.proofs.lemmas.Bool.{and_right, cond-false}
 use Rattle.table.specs.Faults.{number, value as value_of_lem, refusal}
-use Rattle.table.specs.Layout.{record_bytes, states, settings}
+use Rattle.table.specs.Layout.{record_bytes}
 use Rattle.table.specs.Rules.{ObeysRules, FirstBroken}
-use Rattle.table.specs.Reading.{File, whole, checked, with_bytes, read}
+use Rattle.table.specs.Reading.{whole, checked, with_bytes, read}
 use Rattle.table.specs.Listing.{most_bytes, refused_line, table_text, read_text, listing, Tells}
 use Rattle.table.specs.declared.fault.TableFault.{TableFault}
 use Rattle.table.specs.declared.records.reading.Shape.{Shape}

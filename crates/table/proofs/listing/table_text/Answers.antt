@@ -1,4 +1,4 @@
-use Rattle.std.proofs.Common.{◌≡◌, ◌*◌, ◌<◌, ◌++◌, string_bytes, sym, ap, ◌∙◌, arith}
+use Rattle.std.proofs.Common.{◌*◌, ◌<◌, ◌++◌, string_bytes, ap, ◌∙◌, arith}
 use Rattle.table.specs.Listing.{shape_line}
 use Rattle.table.specs.Tables.{file}
 use Rattle.table.proofs.Lines.{lines_more}

@@ -1,4 +1,4 @@
-use Rattle.std.proofs.Common.{◌≡◌, sym, ◌∙◌}
+use Rattle.std.proofs.Common.{◌∙◌}
 use Rattle.table.specs.Reading.{record_fault}
 use Rattle.table.proofs.Firsts.{first_here, first_later}
 use Rattle.table.proofs.records.reading.first_fault.Goals as goal
