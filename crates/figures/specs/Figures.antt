@@ -11,7 +11,6 @@ use Rattle.table.specs.Tables.{table}
 use Rattle.basin.specs.Ranges.{Parameters}
 use Rattle.basin.specs.Making.{made}
 use Rattle.basin.specs.Stepping.{water}
-use Rattle.basin.specs.declared.metres.CostedSetting.{CostedSetting}
 use Rattle.basin.specs.declared.metres.Setting.TheVariants.{Rest, Pump, Gate}
 use Rattle.basin.specs.declared.metres.Water.{Water}
 use Rattle.reckoning.specs.Grains.{whole, highest_ceiling}

@@ -1,21 +1,19 @@
 -- Figures of searches and stations, by runs of calls from a making.
-use Rattle.std.specs.Prelude.{◌≡◌, ℕ, true, false, List, [], ◌∷◌, Some, None, Ok, Err, Option, Result}
+use Rattle.std.specs.Prelude.{◌≡◌, ℕ, true, false, List, [], ◌∷◌, Some, None, Ok, Err, Result}
 use Rattle.model.specs.Faults.{refusal as model_refusal}
-use Rattle.model.specs.Meaning.{Meaning}
 use Rattle.table.specs.Reading.{File, read}
 use Rattle.table.specs.Tables.{table}
 use Rattle.reckoning.specs.Kinds.{running_sum, best_moment}
 use Rattle.reckoning.specs.Meaning.{Meaning as Reckoning}
 use Rattle.rules.specs.Faults.{cause, refusal, step_refused, shut_by, step_at}
-use Rattle.rules.specs.Station.{Station, View, Closed, Live, made}
-use Rattle.rules.specs.Calls.{Call, begin_call, work_call, take_call, abandon_call, issue_call, observe_call, row_call, Answer, answer, after}
+use Rattle.rules.specs.Station.{View, Closed, Live, made}
+use Rattle.rules.specs.Calls.{Call, begin_call, work_call, take_call, abandon_call, issue_call, observe_call, row_call, Answer, answer}
 use Rattle.rules.specs.Runs.{all_with, run, marks_planned}
 use Rattle.rules.specs.declared.answers.Report.{Report}
 use Rattle.rules.specs.declared.answers.Row.{Row}
 use Rattle.rules.specs.declared.answers.Stop.{Stop}
 use Rattle.rules.specs.declared.answers.Stop.TheVariants.{Near, Spent, Deep, Full}
-use Rattle.rules.specs.declared.answers.Taken.{Taken}
-use Rattle.rules.specs.declared.fault.CallName.TheVariants.{Begin, Work, Issue}
+use Rattle.rules.specs.declared.fault.CallName.TheVariants.{Begin, Issue}
 use Rattle.rules.specs.declared.fault.StationFault.{StationFault}
 use Rattle.figures.specs.Figures.{pond}
 

@@ -3,7 +3,7 @@ use crate::tables::file_of;
 use model::{Model, ModelFault, Tariff};
 use std::alloc::{AllocError, Global};
 use std::test::Fail;
-use table::{Table};
+use table::Table;
 
 // A table of one state and two settings, which earn 200 and 500.
 fn one_state(heap: Global) -> Result<Table, Fail> {
