@@ -1,6 +1,6 @@
 -- The worths of a list of marks, joined from the last mark to the first, and the width at a depth.
 use Rattle.std.specs.Prelude.{◌≡◌, ℕ, zero, suc, ◌+◌, ◌-◌, ◌*◌, ◌^◌, ◌≤◌, List, [], ◌∷◌, ◌++◌, length}
-use Rattle.std.specs.List.{AllByRecursion as All}
+use Rattle.std.specs.List.{AllByRecursion}
 use Rattle.model.specs.Meaning.{highest_mark}
 use Rattle.reckoning.specs.Grains.{whole, rounded_up}
 use Rattle.reckoning.specs.Meaning.{Meaning}
@@ -34,7 +34,7 @@ width r (suc depth) = one_deeper r.discount (width r depth)
 
 -- marks as models give them
 abbrev pub AreMarks : List ℕ → Type 0
-AreMarks marks = All (λ mark. mark ≤ highest_mark) marks
+AreMarks marks = AllByRecursion (λ mark. mark ≤ highest_mark) marks
 
 -- The low worth is at most the exact worth, the exact worth at most the high worth.
 abbrev pub LowAtMostExact : Meaning → List ℕ → Type 0
