@@ -1,5 +1,5 @@
 ghost use Rattle.std.specs.Prelude.{◌≡◌};
-ghost use Rattle.basin.specs.Faults.{number as number_of_lem, parameter as parameter_of, RefusalsNumbered};
+ghost use Rattle.basin.specs.Faults.{number as number_of, parameter as parameter_of, RefusalsNumbered};
 
 // The number of the refusal of a parameter that is out of range.
 const OUT_OF_RANGE: u8 = 8;
@@ -13,7 +13,7 @@ pub struct BadParameter {
 impl BadParameter {
     // The number of the refusal, 8.
     pub fn number(self) -> u8
-        ensures value { result ≡ number_of_lem self }
+        ensures value { result ≡ number_of self }
         ensures refusals_numbered { RefusalsNumbered }
     {
         OUT_OF_RANGE

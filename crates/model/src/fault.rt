@@ -1,5 +1,5 @@
 ghost use Rattle.std.specs.Prelude.{◌≡◌};
-ghost use Rattle.model.specs.Faults.{number as number_of_lem, layers as layers_of, handed_up, RefusalsNumbered};
+ghost use Rattle.model.specs.Faults.{number as number_of, layers as layers_of, handed_up, RefusalsNumbered};
 
 // Why a model refuses a step. `layers` counts the models that handed the refusal up:
 // 0 where it arose, one more for each model above, never above 255.
@@ -14,7 +14,7 @@ pub enum ModelFault {
 impl ModelFault {
     // The number of the refusal, 1 or 2.
     pub fn number(self) -> u8
-        ensures value { result ≡ number_of_lem self }
+        ensures value { result ≡ number_of self }
         ensures refusals_numbered { RefusalsNumbered }
     {
         match self {

@@ -1,6 +1,6 @@
 -- Each expansion adds one expanded node, keeps every path within the limits, and leaves a leaf.
 use Rattle.std.proofs.Common.{◌≡◌, ℕ, zero, suc, ◌+◌, ◌-◌, ◌<◌, ◌≤◌, Bool, true, false, cond, eqb, ltb, List, [], ◌∷◌, ◌++◌, length, get_or, set, Some, None, Ok, Option, Result, sym, refl, ap, ◌∙◌, inl, arith, length-append, length-set}
-use Rattle.std.specs.List.{AllByRecursion as All}
+use Rattle.std.specs.List.{AllByRecursion}
 use Rattle.std.proofs.lemmas.Bool.{cond_both, cond-true, cond-false, ne_eqb, true≢false}
 use Rattle.std.proofs.ByRecursion.{All-append, All-set, All-get_or}
 use Rattle.std.proofs.lemmas.List.{length_push}
@@ -38,7 +38,7 @@ module _ {S : Type 0} where
       (λ e. let c = cond-true n.expanded (suc (expansions (a ++ b))) (expansions (a ++ b)) e in omega arith)
       (λ e. let c = cond-false n.expanded (suc (expansions (a ++ b))) (expansions (a ++ b)) e in omega arith)
 
-  none_expanded : (ns : List (Node S)) → All Leaf ns → expansions ns ≡ 0
+  none_expanded : (ns : List (Node S)) → AllByRecursion Leaf ns → expansions ns ≡ 0
   none_expanded [] h = refl
   none_expanded (n ∷ ns) h = cond-false n.expanded (suc (expansions ns)) (expansions ns) h.0 ∙ none_expanded ns h.1
 
@@ -85,7 +85,7 @@ module _ {S : Type 0} (m : Meaning S) (r : Reckoning) (start : Start S) where
 
   module _ (some : 1 ≤ m.settings) (below : Below start.before m.settings) where
     -- allowed paths stay allowed, and some leaf is left
-    pub expansion_leaves_leaf : (tree : List (Node S)) → Any Leaf tree → All (λ n. Allowed m.settings start n.settings) tree → Any Leaf (expand_next m r start tree)
+    pub expansion_leaves_leaf : (tree : List (Node S)) → Any Leaf tree → AllByRecursion (λ n. Allowed m.settings start n.settings) tree → Any Leaf (expand_next m r start tree)
     expansion_leaves_leaf tree leaf allowed =
         let i = next_leaf tree in
         let n = node start tree i in
@@ -94,7 +94,7 @@ module _ {S : Type 0} (m : Meaning S) (r : Reckoning) (start : Start S) where
         let t = allowed_more m.settings start n.settings some below ok in
         any_right Leaf (set tree i (closed n)) (children m r start n m.settings) (children_any m r start Leaf n m.settings t.0 t.1 t.2 refl)
 
-    pub expansion_allowed : (tree : List (Node S)) → Any Leaf tree → All (λ n. Allowed m.settings start n.settings) tree → All (λ n. Allowed m.settings start n.settings) (expand_next m r start tree)
+    pub expansion_allowed : (tree : List (Node S)) → Any Leaf tree → AllByRecursion (λ n. Allowed m.settings start n.settings) tree → AllByRecursion (λ n. Allowed m.settings start n.settings) (expand_next m r start tree)
     expansion_allowed tree leaf allowed =
         let P : Node S → Type 0 = λ n. Allowed m.settings start n.settings in
         let i = next_leaf tree in
@@ -105,7 +105,7 @@ module _ {S : Type 0} (m : Meaning S) (r : Reckoning) (start : Start S) where
         (children_all m r start P n m.settings (λ k l w. allowed_push m.settings start n.settings k ok l w))
 
     -- an expansion of a node that is not too deep makes no path too deep
-    pub expansion_within : (tree : List (Node S)) → Any Leaf tree → (depth (node start tree (next_leaf tree)) ≡ greatest_depth → ⊥) → All (PathWithin m.settings start) tree → All (PathWithin m.settings start) (expand_next m r start tree)
+    pub expansion_within : (tree : List (Node S)) → Any Leaf tree → (depth (node start tree (next_leaf tree)) ≡ greatest_depth → ⊥) → AllByRecursion (PathWithin m.settings start) tree → AllByRecursion (PathWithin m.settings start) (expand_next m r start tree)
     expansion_within tree leaf not_deep within =
         let P : Node S → Type 0 = PathWithin m.settings start in
         let i = next_leaf tree in
@@ -120,7 +120,7 @@ module _ {S : Type 0} (m : Meaning S) (r : Reckoning) (start : Start S) where
           mark_for_each_setting = let p = length_push n.settings k in let q = length_push n.marks (m.mark n.state k) in let b = ok.mark_for_each_setting in omega arith;
         }))
 
-    counted_from : (n : ℕ) (tree : List (Node S)) → Any Leaf tree → All (λ k. Allowed m.settings start k.settings) tree → expansions (expanded_by m r start n tree) ≡ n + expansions tree
+    counted_from : (n : ℕ) (tree : List (Node S)) → Any Leaf tree → AllByRecursion (λ k. Allowed m.settings start k.settings) tree → expansions (expanded_by m r start n tree) ≡ n + expansions tree
     counted_from zero tree leaf allowed = let e : expansions tree ≡ 0 + expansions tree = omega arith in e
     counted_from (suc n) tree leaf allowed =
         let ih = counted_from n (expand_next m r start tree) (expansion_leaves_leaf tree leaf allowed) (expansion_allowed tree leaf allowed) in
@@ -137,7 +137,7 @@ module _ {S : Type 0} (m : Meaning S) (r : Reckoning) (start : Start S) where
       spent_made_all = λ h. sym (spent h);
     }
 
-    pub work_counts : (cells : ℕ) (wanted : Option ℕ) (n : ℕ) (tree : List (Node S)) → Any Leaf tree → All (λ k. Allowed m.settings start k.settings) tree →
+    pub work_counts : (cells : ℕ) (wanted : Option ℕ) (n : ℕ) (tree : List (Node S)) → Any Leaf tree → AllByRecursion (λ k. Allowed m.settings start k.settings) tree →
         ExpandsAndCounts m r start n tree (work m r start cells wanted n tree)
     work_counts cells wanted zero tree leaf allowed = by_end (ending m start cells wanted 0 tree)
       where

@@ -1,6 +1,6 @@
 -- The greatest worth of a leaf, and where it stands.
 use Rattle.std.proofs.Common.{◌≡◌, ℕ, zero, suc, ◌<◌, ◌≤◌, max, Bool, true, false, not, ◌&&◌, eqb, ◌⊎◌, List, [], ◌∷◌, ◌++◌, length, get_or, set, sym, ap, ◌∙◌, inl, inr, ⊎_elim, arith}
-use Rattle.std.specs.List.{AllByRecursion as All}
+use Rattle.std.specs.List.{AllByRecursion}
 use Rattle.std.proofs.lemmas.Bool.{eqb-true, eq-eqb, cond_both, both_ways, and_parts, and_from, not-true, not_from_false, cases_lt, cases_Bool, cond-true, cond-false}
 use Rattle.std.proofs.ByRecursion.{All-weaker, All-get_or, All-from_get_or}
 use Rattle.rules.specs.Trees.{Node}
@@ -36,7 +36,7 @@ module _ {X : Type 0} where
   any_written P (x ∷ xs) (suc i) y l p = inr (any_written P xs i y (omega arith) p)
 
   -- what all are and some one is besides
-  pub any_all : (P Q : X → Type 0) (xs : List X) → All P xs → Any Q xs → Any (λ x. P x × Q x) xs
+  pub any_all : (P Q : X → Type 0) (xs : List X) → AllByRecursion P xs → Any Q xs → Any (λ x. P x × Q x) xs
   any_all P Q [] a h = h
   any_all P Q (x ∷ xs) a (inl q) = inl (a.0, q)
   any_all P Q (x ∷ xs) a (inr h) = inr (any_all P Q xs a.1 h)
@@ -47,13 +47,13 @@ module _ {X : Type 0} where
   any_out P C f (x ∷ xs) (inr h) = any_out P C f xs h
 
   -- each of a list is there
-  pub all_there : (P : X → X → Type 0) → ((x : X) → P x x) → (xs : List X) → All (λ x. Any (P x) xs) xs
+  pub all_there : (P : X → X → Type 0) → ((x : X) → P x x) → (xs : List X) → AllByRecursion (λ x. Any (P x) xs) xs
   all_there P same [] = tt
   all_there P same (x ∷ xs) = (inl (same x), All-weaker (λ y. Any (P y) xs) (λ y. Any (P y) (x ∷ xs)) (λ y h. inr h) xs (all_there P same xs))
 
 module _ {S : Type 0} (worth : Node S → ℕ) where
   -- a bound of every leaf's worth bounds the greatest
-  pub greatest_least : (w : ℕ) (ns : List (Node S)) → All (λ n. Leaf n → worth n ≤ w) ns → greatest worth ns ≤ w
+  pub greatest_least : (w : ℕ) (ns : List (Node S)) → AllByRecursion (λ n. Leaf n → worth n ≤ w) ns → greatest worth ns ≤ w
   greatest_least w [] h = omega arith
   greatest_least w (n ∷ ns) h =
       let rest = greatest_least w ns h.1 in
@@ -63,7 +63,7 @@ module _ {S : Type 0} (worth : Node S → ℕ) where
   greatest_tail n ns = cond_both n.expanded (greatest worth ns) (max (worth n) (greatest worth ns)) (λ v. greatest worth ns ≤ v) (λ e. omega arith) (λ e. omega arith)
 
   -- no leaf's worth is above the greatest
-  pub greatest_above : (ns : List (Node S)) → All (λ n. Leaf n → worth n ≤ greatest worth ns) ns
+  pub greatest_above : (ns : List (Node S)) → AllByRecursion (λ n. Leaf n → worth n ≤ greatest worth ns) ns
   greatest_above [] = tt
   greatest_above (n ∷ ns) = (
     λ e. cond_both n.expanded (greatest worth ns) (max (worth n) (greatest worth ns)) (λ v. worth n ≤ v) (λ t. absurd (both_ways n.expanded e t)) (λ t. omega arith),

@@ -1,6 +1,6 @@
 -- What every station keeps since its making, whatever models and reckonings its calls are handed.
 use Rattle.std.proofs.Common.{◌≡◌, ℕ, zero, suc, ◌-◌, ◌<◌, ◌≤◌, Bool, true, false, cond, eqb, ltb, List, [], ◌∷◌, ◌++◌, length, get_or, take, set, Some, None, Ok, Option, Result, sym, refl, ap, ◌∙◌, subst, inl, ⊎_elim, arith, length-append, length-set, length-take}
-use Rattle.std.specs.List.{AllByRecursion as All}
+use Rattle.std.specs.List.{AllByRecursion}
 use Rattle.std.proofs.lemmas.Bool.{cond_both, eqb-false, ltb-false, cases_eq, cases_lt}
 use Rattle.std.proofs.ByRecursion.{All-append, All-set, All-weaker, All-get_or, All-take}
 use Rattle.std.proofs.lemmas.List.{get_or_append_left, get_or-append_right, get_or-set_same, get_or-set_other, get_or_default}
@@ -90,13 +90,13 @@ module _ {S : Type 0} (turns : List (Turn S)) where
   }
 
   record TreeFits (K cells : ℕ) (start : Start S) (tree : List (Node S)) : Type 0 where
-    within : All (PathWithin K start) tree
+    within : AllByRecursion (PathWithin K start) tree
     few : length tree ≤ cells
     leaf : Any Leaf tree
-    worths : All (Reckoned turns) tree
+    worths : AllByRecursion (Reckoned turns) tree
     grown : TreeGrown turns start tree
 
-  all_allowed : (K : ℕ) (start : Start S) (tree : List (Node S)) → All (PathWithin K start) tree → All (λ n. Allowed K start n.settings) tree
+  all_allowed : (K : ℕ) (start : Start S) (tree : List (Node S)) → AllByRecursion (PathWithin K start) tree → AllByRecursion (λ n. Allowed K start n.settings) tree
   all_allowed K start tree within = All-weaker (PathWithin K start) (λ n. Allowed K start n.settings) (λ n h. h.allowed) tree within
 
   first_fits : (m : Meaning S) (r : Reckoning) → Handed m r → (K cells : ℕ) (start : Start S) → 1 ≤ cells → TreeFits K cells start (root r.ceiling start ∷ [])
@@ -115,7 +115,7 @@ module _ {S : Type 0} (turns : List (Turn S)) where
         let n = node start tree i in
         let more = children m r start n m.settings in
         let within = (best_leaf_is high_of tree (root 0 start) leaf).0 in
-        let kids : All (ChildOf turns (closed n)) more = children_all m r start (ChildOf turns (closed n)) n m.settings (λ k l w. child_of_closed m r handed n k) in
+        let kids : AllByRecursion (ChildOf turns (closed n)) more = children_all m r start (ChildOf turns (closed n)) n m.settings (λ k l w. child_of_closed m r handed n k) in
         record {
           start_first = λ d.
               let old = g.start_first d in
@@ -198,16 +198,16 @@ module _ {S : Type 0} (turns : List (Turn S)) where
     some_cells : 1 ≤ st.cells
     few_cells : st.cells ≤ most_node_cells
     few_rows : length st.rows ≤ most_rows
-    rows_below : All (λ w. w.setting < st.settings) st.rows
+    rows_below : AllByRecursion (λ w. w.setting < st.settings) st.rows
     last_is_below : Below st.last st.settings
     search_fits : OnOpen (SearchFits st) st.search
 
   -- settings of rows below K, and rows of a path below K
-  settings_below : (K : ℕ) (rows : List Row) → All (λ w. w.setting < K) rows → All (λ k. k < K) (settings_of rows)
+  settings_below : (K : ℕ) (rows : List Row) → AllByRecursion (λ w. w.setting < K) rows → AllByRecursion (λ k. k < K) (settings_of rows)
   settings_below K [] h = tt
   settings_below K (w ∷ rows) h = (h.0, settings_below K rows h.1)
 
-  path_rows_below : (K : ℕ) (path marks : List ℕ) → All (λ k. k < K) path → All (λ w. w.setting < K) (rows_of path marks)
+  path_rows_below : (K : ℕ) (path marks : List ℕ) → AllByRecursion (λ k. k < K) path → AllByRecursion (λ w. w.setting < K) (rows_of path marks)
   path_rows_below K [] marks h = tt
   path_rows_below K (k ∷ path) [] h = tt
   path_rows_below K (k ∷ path) (mark ∷ marks) h = (h.0, path_rows_below K path marks h.1)
@@ -270,8 +270,8 @@ module _ {S : Type 0} (turns : List (Turn S)) where
         let best = (best_leaf_is low_of q.tree (root 0 q.start) f.tree_fits.leaf).0 in
         let path : PathWithin st.settings q.start p = All-get_or (PathWithin st.settings q.start) q.tree (best_leaf low_of q.tree) (root 0 q.start) best f.tree_fits.within in
         let front = take q.kept st.rows in
-        let rows : (length (rows_taken r st q) ≤ most_rows) × All (λ w. w.setting < st.settings) (rows_taken r st q) =
-        cond_both (replaces r st q) (front ++ planned_rows q) st.rows (λ l. (length l ≤ most_rows) × All (λ w. w.setting < st.settings) l)
+        let rows : (length (rows_taken r st q) ≤ most_rows) × AllByRecursion (λ w. w.setting < st.settings) (rows_taken r st q) =
+        cond_both (replaces r st q) (front ++ planned_rows q) st.rows (λ l. (length l ≤ most_rows) × AllByRecursion (λ w. w.setting < st.settings) l)
         (λ h. (
           let a = length-append front (planned_rows q) in let b = length-take q.kept st.rows in let c = length_rows_of p.settings p.marks in
               let d = path.not_too_deep in let u = f.kept_few in omega arith,
@@ -298,7 +298,7 @@ module _ {S : Type 0} (turns : List (Turn S)) where
         issued_cases m r st (λ out. StationFits out.1) (λ e. k)
         (λ w rest rows some same p stepped.
         let size : length st.rows ≡ suc (length rest) = ap length rows in
-        let below : All (λ w. w.setting < st.settings) (w ∷ rest) = subst (All (λ w. w.setting < st.settings)) rows k.rows_below in
+        let below : AllByRecursion (λ w. w.setting < st.settings) (w ∷ rest) = subst (AllByRecursion (λ w. w.setting < st.settings)) rows k.rows_below in
         record {
           some_settings = k.some_settings;
           some_cells = k.some_cells;
@@ -344,11 +344,11 @@ module _ {S : Type 0} (turns : List (Turn S)) where
   after_fits t h (Closed cause) k = tt
   after_fits t h (Live st) k = call_fits t h t.call st k
 
-  run_fits : (ts : List (Turn S)) → All (λ t. Handed t.model t.reckoning) ts → (v : View S) → OnLive StationFits v → OnLive StationFits (run ts v)
+  run_fits : (ts : List (Turn S)) → AllByRecursion (λ t. Handed t.model t.reckoning) ts → (v : View S) → OnLive StationFits v → OnLive StationFits (run ts v)
   run_fits [] h v k = k
   run_fits (t ∷ ts) h v k = run_fits ts h.1 (after t.model t.reckoning t.call v) (after_fits t h.0 v k)
 
-  all_handed : All (λ t. Handed t.model t.reckoning) turns
+  all_handed : AllByRecursion (λ t. Handed t.model t.reckoning) turns
   all_handed = all_there (λ t u. (u.model ≡ t.model) × (u.reckoning ≡ t.reckoning)) (λ t. (refl, refl)) turns
 
   made_fits : (m : Meaning S) → Laws S m → (s : S) (limit cells : ℕ) → OnLive StationFits (made m s limit cells)
@@ -406,7 +406,7 @@ module _ {S : Type 0} where
   pub worths_of_own_marks : UnderAnyMix S WorthsOfOwnMarks
   worths_of_own_marks m law s limit cells turns =
       on_live turns (WorthsOfOwnMarks turns)
-      (λ st k. on_open turns st (λ q. All (Reckoned turns) q.tree) (λ q f. f.tree_fits.worths) st.search k.search_fits)
+      (λ st k. on_open turns st (λ q. AllByRecursion (Reckoned turns) q.tree) (λ q f. f.tree_fits.worths) st.search k.search_fits)
       (run turns (made m s limit cells)) (mixed turns m law s limit cells)
 
   pub work_counted : UnderAnyMix S WorkCounted
@@ -416,6 +416,6 @@ module _ {S : Type 0} where
       (λ q f w r number wanted same.
       let back = sym same in
       work_counts w r q.start (let a = k.some_settings in omega arith) (subst (Below q.start.before) back f.before_below) st.cells wanted number q.tree f.tree_fits.leaf
-      (subst (λ (x : ℕ). All (λ n. Allowed x q.start n.settings) q.tree) back (all_allowed turns st.settings q.start q.tree f.tree_fits.within)))
+      (subst (λ (x : ℕ). AllByRecursion (λ n. Allowed x q.start n.settings) q.tree) back (all_allowed turns st.settings q.start q.tree f.tree_fits.within)))
       st.search k.search_fits)
       (run turns (made m s limit cells)) (mixed turns m law s limit cells)

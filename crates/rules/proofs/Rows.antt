@@ -1,6 +1,6 @@
 -- Rows along a model, and what is left of them as the first is issued.
 use Rattle.std.proofs.Common.{◌≡◌, ℕ, zero, suc, ◌-◌, ◌<◌, true, List, [], ◌∷◌, ◌++◌, take, drop, Some, Option, refl, ap, arith}
-use Rattle.std.specs.List.{AllByRecursion as All}
+use Rattle.std.specs.List.{AllByRecursion}
 use Rattle.model.specs.Meaning.{Meaning, Laws}
 use Rattle.reckoning.specs.Worths.{AreMarks}
 use Rattle.rules.specs.Sequences.{last_setting, marks_along, end_along}
@@ -22,11 +22,11 @@ module _ {S : Type 0} (m : Meaning S) where
   along_append s [] back h k = k
   along_append s (w ∷ front) back h k = (h.0, h.1, along_append (m.next s w.setting) front back h.2 k)
 
-  pub along_path : (s : S) (path : List ℕ) → All (λ k. k < m.settings) path → Along m s (rows_of path (marks_along m s path))
+  pub along_path : (s : S) (path : List ℕ) → AllByRecursion (λ k. k < m.settings) path → Along m s (rows_of path (marks_along m s path))
   along_path s [] below = tt
   along_path s (k ∷ path) below = (below.0, refl, along_path (m.next s k) path below.1)
 
-  pub along_below : (s : S) (rows : List Row) → Along m s rows → All (λ k. k < m.settings) (settings_of rows)
+  pub along_below : (s : S) (rows : List Row) → Along m s rows → AllByRecursion (λ k. k < m.settings) (settings_of rows)
   along_below s [] h = tt
   along_below s (w ∷ rest) h = (h.0, along_below (m.next s w.setting) rest h.2)
 

@@ -1,6 +1,6 @@
 -- Sequences of settings: their marks and ends, and the laws of what the limit allows.
 use Rattle.std.proofs.Common.{◌≡◌, ℕ, suc, ◌+◌, ◌<◌, ◌≤◌, Bool, true, false, cond, eqb, ltb, leb, List, [], ◌∷◌, ◌++◌, length, Some, None, Ok, Err, Option, Result, sym, refl, ap, ◌∙◌, subst, arith}
-use Rattle.std.specs.List.{AllByRecursion as All}
+use Rattle.std.specs.List.{AllByRecursion}
 use Rattle.std.proofs.lemmas.Bool.{eq-eqb, cond-true, leb-true, le-leb, ltb-true}
 use Rattle.std.proofs.ByRecursion.{All-append}
 use Rattle.model.specs.Meaning.{Meaning, Laws, step}
@@ -23,12 +23,12 @@ module _ {S : Type 0} (m : Meaning S) where
   length_marks s [] = refl
   length_marks s (k ∷ path) = ap suc (length_marks (m.next s k) path)
 
-  pub marks_along_are : Laws S m → (s : S) (path : List ℕ) → m.known s ≡ true → All (λ k. k < m.settings) path → AreMarks (marks_along m s path)
+  pub marks_along_are : Laws S m → (s : S) (path : List ℕ) → m.known s ≡ true → AllByRecursion (λ k. k < m.settings) path → AreMarks (marks_along m s path)
   marks_along_are law s [] known below = tt
   marks_along_are law s (k ∷ path) known below =
       (law.small_marks s k known below.0, marks_along_are law (m.next s k) path (law.next_known s k known below.0) below.1)
 
-  pub known_along : Laws S m → (s : S) (path : List ℕ) → m.known s ≡ true → All (λ k. k < m.settings) path → m.known (end_along m s path) ≡ true
+  pub known_along : Laws S m → (s : S) (path : List ℕ) → m.known s ≡ true → AllByRecursion (λ k. k < m.settings) path → m.known (end_along m s path) ≡ true
   known_along law s [] known below = known
   known_along law s (k ∷ path) known below = known_along law (m.next s k) path (law.next_known s k known below.0) below.1
 
@@ -43,7 +43,7 @@ first_granted place (Ok p) then end e = (p, refl, e)
 first_granted place (Err f) then end e = let z : ◌≡◌ {A = ℕ} 0 1 = cc in absurd (omega arith)
 
 -- a walk that is granted has only settings below K, and ends where they lead
-pub walk_granted : {S : Type 0} (m : Meaning S) (place : ℕ) (s : S) (path : List ℕ) (end : S) → walk_from m place s path ≡ Ok end → All (λ k. k < m.settings) path × (end ≡ end_along m s path)
+pub walk_granted : {S : Type 0} (m : Meaning S) (place : ℕ) (s : S) (path : List ℕ) (end : S) → walk_from m place s path ≡ Ok end → AllByRecursion (λ k. k < m.settings) path × (end ≡ end_along m s path)
 walk_granted m place s [] end e = (tt, let f : s ≡ end = cc in sym f)
 walk_granted {S} m place s (k ∷ path) end e =
     let g = first_granted place (step m s k) (λ t. walk_from m (place + 1) t path) end e in
@@ -53,11 +53,11 @@ walk_granted {S} m place s (k ∷ path) end e =
     ((ltb-true k m.settings p.0, rest.0), rest.1)
 
 -- fronts and backs of a list whose elements are all so
-pub all_front : {X : Type 0} (P : X → Type 0) (front rest : List X) → All P (front ++ rest) → All P front
+pub all_front : {X : Type 0} (P : X → Type 0) (front rest : List X) → AllByRecursion P (front ++ rest) → AllByRecursion P front
 all_front P [] rest h = tt
 all_front P (x ∷ front) rest h = (h.0, all_front P front rest h.1)
 
-pub all_back : {X : Type 0} (P : X → Type 0) (front rest : List X) → All P (front ++ rest) → All P rest
+pub all_back : {X : Type 0} (P : X → Type 0) (front rest : List X) → AllByRecursion P (front ++ rest) → AllByRecursion P rest
 all_back P [] rest h = h
 all_back P (x ∷ front) rest h = all_back P front rest h.1
 
@@ -84,7 +84,7 @@ limit_laws start = record {
 }
 
 -- from here on the test is used by its laws alone
-pub last_below : (K : ℕ) (before : Option ℕ) (path : List ℕ) → Below before K → All (λ k. k < K) path → Below (last_setting before path) K
+pub last_below : (K : ℕ) (before : Option ℕ) (path : List ℕ) → Below before K → AllByRecursion (λ k. k < K) path → Below (last_setting before path) K
 last_below K before [] b h = b
 last_below K before (k ∷ path) b h = last_below K (Some k) path h.0 h.1
 

@@ -1,6 +1,6 @@
 -- What every tree keeps that grows from a start, with one model and one reckoning.
 use Rattle.std.proofs.Common.{◌≡◌, ℕ, zero, suc, ◌+◌, ◌-◌, ◌*◌, ◌^◌, ◌<◌, ◌≤◌, max, true, cond, ◌⊎◌, List, [], ◌∷◌, ◌++◌, length, set, sym, refl, ap, ◌∙◌, subst, inl, inr, ⊎_elim, append_assoc, append-nil, le_trans, mul-le-mul_right, arith}
-use Rattle.std.specs.List.{AllByRecursion as All}
+use Rattle.std.specs.List.{AllByRecursion}
 use Rattle.std.proofs.lemmas.Bool.{cond_both, cond-true, true≢false, false≢true, cases_lt}
 use Rattle.std.proofs.ByRecursion.{All-append, All-set, All-weaker, All-get_or}
 use Rattle.model.specs.Meaning.{Meaning, Laws}
@@ -39,9 +39,9 @@ Meets path n = Leaf n × Through path n.settings
 -- every node is faithful, every allowed sequence meets a leaf, and no leaf has come to a greater high worth than a node
 -- had when it was expanded, nor the promise to a smaller low worth
 pub record TreeKept {S : Type 0} (m : Meaning S) (r : Reckoning) (start : Start S) (tree : List (Node S)) : Type 0 where
-  pub faithful : All (Faithful m r start) tree
+  pub faithful : AllByRecursion (Faithful m r start) tree
   pub covers : (path : List ℕ) → Allowed m.settings start path → Any (Meets path) tree
-  pub passed : All (λ n. n.expanded ≡ true → (greatest high_of tree ≤ n.high) × (n.low ≤ promise tree)) tree
+  pub passed : AllByRecursion (λ n. n.expanded ≡ true → (greatest high_of tree ≤ n.high) × (n.low ≤ promise tree)) tree
 
 -- what a tree with all this promises
 pub record Promises {S : Type 0} (m : Meaning S) (r : Reckoning) (start : Start S) (tree : List (Node S)) : Type 0 where
@@ -52,19 +52,19 @@ pub record Promises {S : Type 0} (m : Meaning S) (r : Reckoning) (start : Start 
   pub plan_worth : promise tree * whole ^ length (plan start tree).marks ≤ exact_worth r (plan start tree).marks
   pub gap_narrow : gap tree ≤ width r (reach tree)
 
-all_both : {X : Type 0} (P Q R : X → Type 0) → ((x : X) → P x → Q x → R x) → (xs : List X) → All P xs → All Q xs → All R xs
+all_both : {X : Type 0} (P Q R : X → Type 0) → ((x : X) → P x → Q x → R x) → (xs : List X) → AllByRecursion P xs → AllByRecursion Q xs → AllByRecursion R xs
 all_both P Q R f [] p q = tt
 all_both P Q R f (x ∷ xs) p q = (f x p.0 q.0, all_both P Q R f xs p.1 q.1)
 
 module _ {S : Type 0} (m : Meaning S) (r : Reckoning) (start : Start S) where
   -- what is so of each allowed child is so of all children
   pub children_all : (P : Node S → Type 0) (n : Node S) (k : ℕ) →
-      ((a : ℕ) → a < k → allows_child start n a ≡ true → P (child m r n a)) → All P (children m r start n k)
+      ((a : ℕ) → a < k → allows_child start n a ≡ true → P (child m r n a)) → AllByRecursion P (children m r start n k)
   children_all P n zero f = tt
   children_all P n (suc k) f =
       All-append P (children m r start n k) (cond (allows_child start n k) (child m r n k ∷ []) [])
       (children_all P n k (λ a l w. f a (omega arith) w))
-      (cond_both (allows_child start n k) (child m r n k ∷ []) [] (All P) (λ e. (f k (omega arith) e, tt)) (λ e. tt))
+      (cond_both (allows_child start n k) (child m r n k ∷ []) [] (AllByRecursion P) (λ e. (f k (omega arith) e, tt)) (λ e. tt))
 
   -- an allowed child is among the children
   pub children_any : (P : Node S → Type 0) (n : Node S) (k a : ℕ) → a < k → allows_child start n a ≡ true → P (child m r n a) → Any P (children m r start n k)
@@ -209,7 +209,7 @@ module _ {S : Type 0} (m : Meaning S) (r : Reckoning) (start : Start S) where
     max_either : (P : ℕ → Type 0) (a b : ℕ) → P a → P b → P (max a b)
     max_either P a b p q = ⊎_elim (λ (l : a < b). subst P (omega arith) q) (λ (l : b ≤ a). subst P (omega arith) p) (cases_lt a b)
 
-    reach_width : (g : ℕ) (ns : List (Node S)) → g ≤ width r 0 → All (λ n. n.expanded ≡ true → g ≤ width r (depth n)) ns → g ≤ width r (reach ns)
+    reach_width : (g : ℕ) (ns : List (Node S)) → g ≤ width r 0 → AllByRecursion (λ n. n.expanded ≡ true → g ≤ width r (depth n)) ns → g ≤ width r (reach ns)
     reach_width g [] z h = z
     reach_width g (n ∷ ns) z h =
         let rest = reach_width g ns z h.1 in

@@ -1,6 +1,6 @@
 -- What is so of every station since its making, whatever models and reckonings its calls are handed.
 use Rattle.std.specs.Prelude.{◌≡◌, ℕ, suc, ◌<◌, ◌≤◌, true, List, [], ◌∷◌, ◌++◌, length, get_or, Option, slice_index_or}
-use Rattle.std.specs.List.{AllByRecursion as All}
+use Rattle.std.specs.List.{AllByRecursion}
 use Rattle.model.specs.Meaning.{Meaning, Laws}
 use Rattle.reckoning.specs.Meaning.{Meaning as Reckoning}
 use Rattle.reckoning.specs.Worths.{low_worth, high_worth}
@@ -33,13 +33,13 @@ pub record SearchWithin {S : Type 0} (st : Station S) (q : Search S) : Type 0 wh
   pub kept_at_most_rows : q.kept ≤ length st.rows
   pub before_below_k : Below q.start.before st.settings
   pub nodes_at_most_cells : length q.tree ≤ st.cells
-  pub paths_within : All (PathWithin st.settings q.start) q.tree
+  pub paths_within : AllByRecursion (PathWithin st.settings q.start) q.tree
   pub some_leaf : Any Leaf q.tree
 
 pub record WithinLimits {S : Type 0} (turns : List (Turn S)) (st : Station S) : Type 0 where
   pub cells_at_most_65536 : st.cells ≤ most_node_cells
   pub rows_at_most_64 : length st.rows ≤ most_rows
-  pub rows_below_k : All (λ w. w.setting < st.settings) st.rows
+  pub rows_below_k : AllByRecursion (λ w. w.setting < st.settings) st.rows
   pub last_below_k : Below st.last st.settings
   pub search_within : OnOpen (SearchWithin st) st.search
 
@@ -65,7 +65,7 @@ abbrev pub Reckoned : {S : Type 0} → List (Turn S) → Node S → Type 0
 Reckoned turns n = Any (λ t. (n.low ≡ low_worth t.reckoning n.marks) × (n.high ≡ high_worth t.reckoning n.marks)) turns
 
 abbrev pub WorthsOfOwnMarks : {S : Type 0} → List (Turn S) → Station S → Type 0
-WorthsOfOwnMarks turns st = OnOpen (λ q. All (Reckoned turns) q.tree) st.search
+WorthsOfOwnMarks turns st = OnOpen (λ q. AllByRecursion (Reckoned turns) q.tree) st.search
 
 -- Work on an open search expands and counts as it says, with any model of the making's K and any reckoning.
 abbrev pub WorkCounted : {S : Type 0} → List (Turn S) → Station S → Type 0

@@ -1,6 +1,6 @@
 -- Sequences of settings from a start: which are allowed, and what the model gives along them.
 use Rattle.std.specs.Prelude.{◌≡◌, ℕ, ◌+◌, ◌<◌, Bool, true, cond, List, [], ◌∷◌, ◌++◌, Some, None, Option, ◌==◌, nat_le}
-use Rattle.std.specs.List.{AllByRecursion as All}
+use Rattle.std.specs.List.{AllByRecursion}
 use Rattle.model.specs.Meaning.{Meaning}
 
 -- Where a search starts: a state, the setting before it or none, and the switch limit S.
@@ -25,7 +25,7 @@ allows start path = nat_le (switches start.before path) start.limit
 
 -- An allowed sequence, under K settings: each setting is below K, and the limit allows it.
 pub record Allowed {S : Type 0} (K : ℕ) (start : Start S) (path : List ℕ) : Type 0 where
-  pub below_k : All (λ k. k < K) path
+  pub below_k : AllByRecursion (λ k. k < K) path
   pub within_limit : allows start path ≡ true
 
 -- a setting below K, or none

@@ -1,6 +1,6 @@
 ghost use Rattle.std.specs.Prelude.{◌≡◌};
 ghost use Rattle.rules.specs.declared.fault.CallName.TheVariants.{Work};
-ghost use Rattle.rules.specs.Faults.{number as number_of_lem, cause_number, cause_of, step_of, call_of, step_number, step_layers, step_at, step_refused, named, RefusalsNumbered};
+ghost use Rattle.rules.specs.Faults.{number as number_of, cause_number, cause_of, step_of, call_of, step_number, step_layers, step_at, step_refused, named, RefusalsNumbered};
 
 use model::ModelFault;
 
@@ -101,7 +101,7 @@ impl StepFault {
 impl StationFault {
     // The number of the refusal.
     pub fn number(self) -> u8
-        ensures value { result ≡ number_of_lem self }
+        ensures value { result ≡ number_of self }
         ensures refusals_numbered { RefusalsNumbered }
     {
         match self {

@@ -4,7 +4,7 @@ use Rattle.std.proofs.lemmas.Nat.{div_below, mod_below}
 use Rattle.std.proofs.lemmas.Bool.{ltb-true, leb-true, eqb-true, lt-ltb, le-leb, eq-eqb, and_parts, and_from, both_ways, false≢true}
 use Rattle.model.specs.Meaning.{highest_mark}
 use Rattle.model.proofs.Walks.{step_granted}
-use Rattle.table.specs.Faults.{number, value as value_of_lem, refusal}
+use Rattle.table.specs.Faults.{number, value as value_of, refusal}
 use Rattle.table.specs.Layout.{record_bytes, record_at, count, last, states, settings}
 use Rattle.table.specs.Rules.{WholeRecords, Complete, InOrder, NextKnown, SoundRecord, ObeysRules, RecordBreaks, FirstBroken}
 use Rattle.table.specs.Reading.{File, whole, complete, record_fault, first_of, unless, shape, checked, with_bytes, read}
@@ -25,7 +25,7 @@ out_of_order_from bs i e o = both_ways _ e (and_from _ _ (eq-eqb _ _ o.0) (eq-eq
 -- what the first fault of record i says
 abbrev RecordDecided : List ℕ → ℕ → Option TableFault → Type 0
 RecordDecided bs i None = SoundRecord bs i
-RecordDecided bs i (Some f) = (value_of_lem f ≡ i) × RecordBreaks bs (number f) i
+RecordDecided bs i (Some f) = (value_of f ≡ i) × RecordBreaks bs (number f) i
 
 by_mark : (bs : List ℕ) (i : ℕ) → InOrder bs i → NextKnown bs i → (b : Bool) → leb (record_at bs i).mark highest_mark ≡ b → RecordDecided bs i (cond b None (Some (refusal 7 i)))
 by_mark bs i o n true e = (o, n, leb-true _ _ e)
@@ -48,7 +48,7 @@ record_decided bs i = by_order bs i _ refl
 
 abbrev pub Decided : List ℕ → Result Shape TableFault → Type 0
 Decided bs (Ok s) = ObeysRules bs × (s ≡ shape bs)
-Decided bs (Err f) = FirstBroken bs (number f) (value_of_lem f)
+Decided bs (Err f) = FirstBroken bs (number f) (value_of f)
 
 by_records : (bs : List ℕ) → WholeRecords bs → Complete bs → (o : Option TableFault) → first_of (record_fault bs (states bs) (settings bs)) 0 (count bs) ≡ o → Decided bs (unless o (shape bs))
 by_records bs w c None e = (
@@ -152,7 +152,7 @@ reads_by bs (Err f) d is (Err g) e =
       value = e ∙ ap (with_bytes bs) (sym is);
       accepted_if_rules_obeyed = λ o. absurd (broken_none bs _ _ o d);
       rules_obeyed_if_accepted = λ no. absurd (false≢true no);
-      refused_by_first_broken = subst (λ (h : TableFault). FirstBroken bs (number h) (value_of_lem h)) (sym same) d;
+      refused_by_first_broken = subst (λ (h : TableFault). FirstBroken bs (number h) (value_of h)) (sym same) d;
       steps_as_recorded = tt;
     }
 

@@ -2,7 +2,7 @@
 use Rattle.std.proofs.Common.{◌≡◌, ℕ, ◌+◌, ◌%◌, ◌≤◌, false, eqb, List, length, take, Ok, Err, Result, refl, ap, ◌∙◌, arith}
 use Rattle.std.proofs.lemmas.List.{take_all, length-take-le}
 use Rattle.std.proofs.lemmas.Bool.{and_right, cond-false}
-use Rattle.table.specs.Faults.{number, value as value_of_lem, refusal}
+use Rattle.table.specs.Faults.{number, value as value_of, refusal}
 use Rattle.table.specs.Layout.{record_bytes}
 use Rattle.table.specs.Rules.{ObeysRules, FirstBroken}
 use Rattle.table.specs.Reading.{whole, checked, with_bytes, read}
@@ -24,7 +24,7 @@ accepted bs (Err f) d o = absurd (broken_none bs _ _ o d)
 refused : (bs : List ℕ) (c : Result Shape TableFault) → Decided bs c → (ObeysRules bs → ⊥)
     → (n : ℕ) × (v : ℕ) × FirstBroken bs n v × (read_text (with_bytes bs c) ≡ refused_line n v)
 refused bs (Ok s) d no_rules = absurd (no_rules d.0)
-refused bs (Err f) d no_rules = (number f, value_of_lem f, d, refl)
+refused bs (Err f) d no_rules = (number f, value_of f, d, refl)
 
 pub tells : (bs text : List ℕ) → text ≡ listing bs → Tells bs text
 tells bs text e =

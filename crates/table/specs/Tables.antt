@@ -4,7 +4,7 @@ use Rattle.model.specs.Meaning.{Meaning, step}
 use Rattle.table.specs.Layout.{record_at, count}
 use Rattle.table.specs.Reading.{File, read}
 use Rattle.table.specs.Rules.{ObeysRules, FirstBroken}
-use Rattle.table.specs.Faults.{number, value as value_of_lem}
+use Rattle.table.specs.Faults.{number, value as value_of}
 use Rattle.table.specs.declared.fault.TableFault.{TableFault}
 use Rattle.table.specs.declared.records.Record.{Record}
 use Rattle.table.specs.declared.records.Table.{Table}
@@ -54,6 +54,6 @@ pub record Reads (bs : List ℕ) (r : Result Table TableFault) : Type 0 where
   pub accepted_if_rules_obeyed : ObeysRules bs → is_ok r ≡ true
   pub rules_obeyed_if_accepted : is_ok r ≡ true → ObeysRules bs
   -- a refusal's number and value are those of the first rule that the file breaks
-  pub refused_by_first_broken : IfErr r (λ f. FirstBroken bs (number f) (value_of_lem f))
+  pub refused_by_first_broken : IfErr r (λ f. FirstBroken bs (number f) (value_of f))
   -- an accepted table steps as its records say
   pub steps_as_recorded : IfOk r (λ t. StepsAsRecorded bs (table (file t)))

@@ -1,5 +1,5 @@
 ghost use Rattle.std.specs.Prelude.{◌≡◌};
-ghost use Rattle.table.specs.Faults.{number as number_of_lem, value as value_of_lem, RefusalsNumbered};
+ghost use Rattle.table.specs.Faults.{number as number_of, value as value_of, RefusalsNumbered};
 
 // Why a table file is refused. Records are numbered from 0.
 #[derive(Clone, Copy, PartialEq, Eq, Debug)]
@@ -19,7 +19,7 @@ pub enum TableFault {
 impl TableFault {
     // The number of the refusal, 3 to 7.
     pub fn number(self) -> u8
-        ensures value { result ≡ number_of_lem self }
+        ensures value { result ≡ number_of self }
         ensures refusals_numbered { RefusalsNumbered }
     {
         match self {
@@ -33,7 +33,7 @@ impl TableFault {
 
     // What is returned with it: the length for 3, the record for 4 to 7.
     pub fn value(self) -> usize
-        ensures { result ≡ value_of_lem self }
+        ensures { result ≡ value_of self }
     {
         match self {
             TableFault::BadLength { length } => length,
