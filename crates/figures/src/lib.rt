@@ -1,4 +1,4 @@
-// The worked figures of the rules, under one assertion, and examples as tests.
+// The worked figures of the rules, each set under one assertion, and examples as tests.
 #![tactic(auto)]
 
 #[cfg(test)]

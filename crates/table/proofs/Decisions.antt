@@ -7,7 +7,7 @@ use Rattle.model.proofs.Walks.{step_granted}
 use Rattle.table.specs.Faults.{number, value as value_of, refusal}
 use Rattle.table.specs.Layout.{record_bytes, record_at, count, last, states, settings}
 use Rattle.table.specs.Rules.{WholeRecords, Complete, InOrder, NextKnown, SoundRecord, ObeysRules, RecordBreaks, FirstBroken}
-use Rattle.table.specs.Reading.{File, whole, complete, record_fault, first_of, unless, shape, checked, with_bytes, read}
+use Rattle.table.specs.Reading.{File, whole, complete, record_fault, first_there, unless, shape, checked, with_bytes, read}
 use Rattle.table.specs.Tables.{file, file_read, table, StepsAsRecorded, Reads}
 use Rattle.table.specs.declared.fault.TableFault.{TableFault}
 use Rattle.table.specs.declared.records.reading.Shape.{Shape}
@@ -50,7 +50,7 @@ abbrev pub Decided : List ℕ → Result Shape TableFault → Type 0
 Decided bs (Ok s) = ObeysRules bs × (s ≡ shape bs)
 Decided bs (Err f) = FirstBroken bs (number f) (value_of f)
 
-by_records : (bs : List ℕ) → WholeRecords bs → Complete bs → (o : Option TableFault) → first_of (record_fault bs (states bs) (settings bs)) 0 (count bs) ≡ o → Decided bs (unless o (shape bs))
+by_records : (bs : List ℕ) → WholeRecords bs → Complete bs → (o : Option TableFault) → first_there (record_fault bs (states bs) (settings bs)) 0 (count bs) ≡ o → Decided bs (unless o (shape bs))
 by_records bs w c None e = (
   record {
     whole_records = w;
@@ -68,12 +68,12 @@ by_records bs w c (Some f) e =
     subst (λ (v : ℕ). FirstBroken bs (number f) v) (sym d.0) (inr (inr (w, c, found.within, before, d.1)))
 
 by_complete : (bs : List ℕ) → WholeRecords bs → (b : Bool) → complete bs ≡ b
-    → Decided bs (cond b (unless (first_of (record_fault bs (states bs) (settings bs)) 0 (count bs)) (shape bs)) (Err (refusal 4 (last bs))))
+    → Decided bs (cond b (unless (first_there (record_fault bs (states bs) (settings bs)) 0 (count bs)) (shape bs)) (Err (refusal 4 (last bs))))
 by_complete bs w true e = let p = and_parts _ _ e in by_records bs w (ltb-true _ _ p.0, eqb-true _ _ p.1) _ refl
 by_complete bs w false e = inr (inl (refl, refl, w, λ c. both_ways _ e (and_from _ _ (lt-ltb _ _ c.0) (eq-eqb _ _ c.1))))
 
 by_whole : (bs : List ℕ) (b : Bool) → whole bs ≡ b
-    → Decided bs (cond b (cond (complete bs) (unless (first_of (record_fault bs (states bs) (settings bs)) 0 (count bs)) (shape bs)) (Err (refusal 4 (last bs)))) (Err (refusal 3 (length bs))))
+    → Decided bs (cond b (cond (complete bs) (unless (first_there (record_fault bs (states bs) (settings bs)) 0 (count bs)) (shape bs)) (Err (refusal 4 (last bs)))) (Err (refusal 3 (length bs))))
 by_whole bs true e = let p = and_parts _ _ e in by_complete bs (ltb-true _ _ p.0, eqb-true _ _ p.1) (complete bs) refl
 by_whole bs false e = inl (refl, refl, λ w. both_ways _ e (and_from _ _ (lt-ltb _ _ w.0) (eq-eqb _ _ w.1)))
 

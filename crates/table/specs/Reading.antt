@@ -35,9 +35,9 @@ or_else (Some x) o = Some x
 or_else None o = o
 
 -- the first of f i, f (i + 1), .. that is there, of n in all
-abbrev pub first_of : {A : Type 0} → (ℕ → Option A) → ℕ → ℕ → Option A
-first_of f i zero = None
-first_of f i (suc n) = or_else (f i) (first_of f (i + 1) n)
+abbrev pub first_there : {A : Type 0} → (ℕ → Option A) → ℕ → ℕ → Option A
+first_there f i zero = None
+first_there f i (suc n) = or_else (f i) (first_there f (i + 1) n)
 
 -- the refusal if there is one, else the answer
 abbrev pub unless : {A : Type 0} → Option TableFault → A → Result A TableFault
@@ -53,7 +53,7 @@ abbrev pub checked : List ℕ → Result Shape TableFault
 checked bs =
     cond (whole bs)
     (cond (complete bs)
-    (unless (first_of (record_fault bs (states bs) (settings bs)) 0 (count bs)) (shape bs))
+    (unless (first_there (record_fault bs (states bs) (settings bs)) 0 (count bs)) (shape bs))
     (Err (refusal 4 (last bs))))
     (Err (refusal 3 (length bs)))
 

@@ -1,6 +1,6 @@
 ghost use Rattle.std.specs.Prelude.{◌≡◌, ◌+◌, ◌*◌, ◌<◌, ◌≤◌, length};
 ghost use Rattle.table.specs.Layout.{record_bytes, word as two_bytes, record_at};
-ghost use Rattle.table.specs.Reading.{record_fault, first_of, checked};
+ghost use Rattle.table.specs.Reading.{record_fault, first_there, checked};
 ghost use Rattle.table.specs.Tables.{Reads};
 
 use crate::fault::TableFault;
@@ -57,7 +57,7 @@ fn record_fault(bytes: &[u8], shape: Shape, i: usize) -> Option<TableFault>
 // What is wrong with the first wrong record of the first `count`.
 fn first_fault(bytes: &[u8], shape: Shape, count: usize) -> Option<TableFault>
     requires { (1 ≤ shape.settings) × (record_bytes * count ≤ length bytes.now) }
-    ensures { result ≡ first_of (record_fault bytes.now shape.states shape.settings) 0 count }
+    ensures { result ≡ first_there (record_fault bytes.now shape.states shape.settings) 0 count }
 {
     for i in 0..count {
         let fault = record_fault(bytes, shape, i);
