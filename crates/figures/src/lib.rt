@@ -11,13 +11,12 @@ mod tables;
 mod tariffs;
 
 ghost use Rattle.figures.specs.Figures.{Figures};
+ghost use Rattle.figures.specs.Stations.{StationFigures};
 
 // Does nothing: its contract says that the definitions give the worked figures.
 pub fn worked_figures()
     ensures { Figures }
 {}
-
-ghost use Rattle.figures.specs.Stations.{StationFigures};
 
 // Does nothing: its contract says that the definitions give the worked figures of searches and stations.
 pub fn worked_figures_of_stations()
