@@ -18,12 +18,12 @@ module _ (charges : List ℕ) where
   all_in_range e h = leb-true _ _ (sym (tested charges h) ∙ each_passes 0 (map charge_in_range charges) e h)
 
   -- the charge of this hour is out of range, and those before it are in range
-  record FirstHigh (hour : ℕ) : Type 0 where
-    within : hour < length charges
-    high_there : ChargeInRange charges hour → ⊥
-    in_range_before : (h : ℕ) → h < hour → ChargeInRange charges h
+  pub record FirstHigh (hour : ℕ) : Type 0 where
+    pub within : hour < length charges
+    pub high_there : ChargeInRange charges hour → ⊥
+    pub in_range_before : (h : ℕ) → h < hour → ChargeInRange charges h
 
-  first_is_high : (hour : ℕ) → first_high_charge charges ≡ Some hour → FirstHigh hour
+  pub first_is_high : (hour : ℕ) → first_high_charge charges ≡ Some hour → FirstHigh hour
   first_is_high hour e =
       let (j, is, first) = found_first 0 (map charge_in_range charges) hour e in
       let same : j ≡ hour = omega arith in
@@ -40,8 +40,8 @@ makes_by charges m None is (Ok t) e = record {
   in_range_if_made = λ _ h _. all_in_range charges is h;
   refused_at_first = tt;
 }
-makes_by charges m None is (Err f) e = let z : ◌≡◌ {A = ℕ} 0 1 = cc in let b : ⊥ = omega arith in absurd b
-makes_by charges m (Some hour) is (Ok t) e = let z : ◌≡◌ {A = ℕ} 0 1 = cc in let b : ⊥ = omega arith in absurd b
+makes_by charges m None is (Err f) e = cc
+makes_by charges m (Some hour) is (Ok t) e = cc
 makes_by charges m (Some hour) is (Err f) e =
     let same : hour ≡ f.hour = cc in
     let first = subst (FirstHigh charges) same (first_is_high charges hour is) in
@@ -54,3 +54,13 @@ makes_by charges m (Some hour) is (Err f) e =
 
 pub makes : {M : Type 0} (charges : List ℕ) (m : M) → (r : Result (Tariff M) BadCharge) → parts r ≡ made_tariff charges m → Makes charges m r
 makes charges m r e = makes_by charges m (first_high_charge charges) refl r e
+
+-- what is not refused has no first
+pub none_refused : {A : Type 0} (o : Option ℕ) (x : A) → refused_at o x ≡ Ok x → o ≡ None
+none_refused None x e = refl
+none_refused (Some h) x e = cc
+
+-- what is refused is refused alike, whatever the answer would be
+pub refused_alike : {A B : Type 0} (o : Option ℕ) (x : A) (y : B) (f : BadCharge) → refused_at o x ≡ Err f → refused_at o y ≡ Err f
+refused_alike (Some h) x y f e = cc
+refused_alike None x y f e = cc

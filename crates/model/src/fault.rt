@@ -28,8 +28,7 @@ impl ModelFault {
         ensures { result ≡ layers_of self }
     {
         match self {
-            ModelFault::UnknownState { layers } => layers,
-            ModelFault::UnknownSetting { layers } => layers,
+            ModelFault::UnknownState { layers } | ModelFault::UnknownSetting { layers } => layers,
         }
     }
 

@@ -44,10 +44,10 @@ fn step_at<M: Model>(
 ) -> Result<M::State, WalkFault>
     ensures { result ≡ at_place place (stepped (M.meaning model.now) state setting) }
 {
-    match model.step(state, setting) {
-        Ok((_, next)) => Ok(next),
-        Err(fault) => Err(WalkFault { fault, place }),
-    }
+    let (_, next) = model
+        .step(state, setting)
+        .map_err(|fault| WalkFault { fault, place })?;
+    Ok(next)
 }
 
 // The state after the settings in their order, or the first refusal with its place.

@@ -1,7 +1,7 @@
-ghost use Rattle.std.specs.Prelude.{◌≡◌};
-ghost use Rattle.model.specs.TariffMaking.{charge_number, charge_hour, charge_in_range, first_high_charge, Makes};
+ghost use Rattle.std.specs.Prelude.{◌≡◌, not, position};
+ghost use Rattle.model.specs.TariffMaking.{charge_number, charge_hour, charge_in_range, first_high_charge, refused_at, Makes};
 
-use crate::tariff::{BadCharge, HIGHEST_CHARGE, HOURS, Tariff};
+use crate::tariff::{BadCharge, HIGHEST_CHARGE, Tariff};
 
 impl BadCharge {
     // The number of the refusal, 9.
@@ -27,15 +27,20 @@ fn in_range(charge: u16) -> bool
 }
 
 // The first hour whose charge is out of range.
-fn first_high_charge(charges: &[u16; 24]) -> Option<u8>
-    ensures { result ≡ first_high_charge charges.now }
+fn first_high_charge(charges: &[u16; 24]) -> Option<usize>
+    ensures { result ≡ position (λ charge. not (charge_in_range charge)) charges.now }
 {
-    for hour in 0..HOURS {
-        if !in_range(charges[hour as usize]) {
-            return Some(hour);
-        }
+    charges.iter().position(|charge| !in_range(*charge))
+}
+
+// Refuses the first charge that is out of range.
+fn check(charges: &[u16; 24]) -> Result<(), BadCharge>
+    ensures { result ≡ refused_at (first_high_charge charges.now) tt }
+{
+    match first_high_charge(charges) {
+        Some(hour) => Err(BadCharge { hour: hour as u8 }),
+        None => Ok(()),
     }
-    None
 }
 
 impl<M: Drop> Tariff<M> {
@@ -43,9 +48,7 @@ impl<M: Drop> Tariff<M> {
     pub fn new(charges: [u16; 24], model: M) -> Result<Tariff<M>, BadCharge>
         ensures { Makes charges model result }
     {
-        match first_high_charge(&charges) {
-            Some(hour) => Err(BadCharge { hour }),
-            None => Ok(Tariff { charges, model }),
-        }
+        check(&charges)?;
+        Ok(Tariff { charges, model })
     }
 }

@@ -54,12 +54,11 @@ impl<M: PlantModel> PlantModel for Tariff<M> {
         if hour >= HOURS {
             return Err(ModelFault::UnknownState { layers: 0 });
         }
-        match self.model.step(below, setting) {
-            Ok((mark, next)) => Ok((
-                charged(&self.charges, hour, setting, mark),
-                (hour_after(hour), next),
-            )),
-            Err(fault) => Err(fault.handed_up()),
-        }
+        let (mark, next) = self
+            .model
+            .step(below, setting)
+            .map_err(ModelFault::handed_up)?;
+        let left = charged(&self.charges, hour, setting, mark);
+        Ok((left, (hour_after(hour), next)))
     }
 }
