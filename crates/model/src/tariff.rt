@@ -12,6 +12,7 @@ pub const HOURS: u8 = 24;
 pub const HIGHEST_CHARGE: u16 = 1000;
 
 // Refusal 9, with the hour: the charge of this hour is above 1,000.
+// It is a type of its own, and not one type for every refusal of one case, so that its value is named an hour.
 #[derive(Clone, Copy, PartialEq, Eq, Debug)]
 pub struct BadCharge {
     pub hour: u8,

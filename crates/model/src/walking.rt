@@ -6,6 +6,8 @@ use crate::fault::ModelFault;
 use crate::questions::Model;
 
 // A step that was refused on a walk, and its place in the list of settings, from 0.
+// It hands on the model's number and layers as the fault of a search does; one type for both would
+// give a walk's fault a setting beside the list that it walks.
 #[derive(Clone, Copy, PartialEq, Eq, Debug)]
 pub struct WalkFault {
     pub fault: ModelFault,

@@ -22,7 +22,7 @@ fn charged(charges: &[u16; 24], hour: u8, setting: u8, mark: u16) -> u16
     if setting == 0 {
         mark
     } else {
-        mark.saturating_sub(charges[hour as usize])
+        mark.saturating_sub(charges[usize::from(hour)])
     }
 }
 

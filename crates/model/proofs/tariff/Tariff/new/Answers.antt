@@ -1,6 +1,6 @@
 use Rattle.std.proofs.Common.{Err, sym, ap, ◌∙◌}
 use Rattle.std.proofs.lemmas.Result.{err_from_is_err_and}
-use Rattle.model.specs.TariffMaking.{first_high_charge, parts, refused_at}
+use Rattle.model.specs.TariffMaking.{first_high_charge, parts}
 use Rattle.model.proofs.Charges.{all_in_range, makes, none_refused, refused_alike}
 use Rattle.model.proofs.tariff.Tariff.new.Goals as goal
 
@@ -14,8 +14,3 @@ returns-in_err-check g c =
     let p = err_from_is_err_and c.from_residual.result c.from_residual.ensures.1 in
     let refused = refused_alike (first_high_charge c.args.charges) tt (c.args.charges, c.args.model) _ (sym c.check.ensures ∙ c.in_err-check.was) in
     makes c.args.charges c.args.model _ (ap parts p.1 ∙ ap Err p.2 ∙ sym refused)
-
-pub returns : goal.returns
-returns g c =
-    let none = none_refused (first_high_charge c.args.charges) tt (sym c.check.ensures ∙ c.in_ok-check.was) in
-    makes c.args.charges c.args.model _ (sym (ap (λ o. refused_at o (c.args.charges, c.args.model)) none))
