@@ -1,25 +1,21 @@
--- The first test that fails: step by step over a list, and what it says of each test.
+-- The first test that fails: by its place in the list, and what it says of each test.
 use Rattle.std.proofs.Common.{◌≡◌, ℕ, zero, suc, ◌+◌, ◌<◌, Bool, true, false, List, [], ◌∷◌, ◌++◌, map, length, get_or, Some, None, Option, sym, refl, ap, ◌∙◌, arith, add-zero}
 use Rattle.std.specs.Prelude.{not, position}
+use Rattle.std.specs.Option.{option_map}
 use Rattle.model.specs.First.{first_false}
 
--- n steps further on, where there is a place at all
-abbrev pub moved_on : ℕ → Option ℕ → Option ℕ
-moved_on n None = None
-moved_on n (Some k) = Some (n + k)
-
 -- of tests numbered from n, the first that fails is that of the first item that does not pass
-pub first_false_is_position : {A : Type 0} (ok : A → Bool) (n : ℕ) (xs : List A) → first_false n (map ok xs) ≡ moved_on n (position (λ x. not (ok x)) xs)
-first_false_is_position ok n [] = refl
-first_false_is_position ok n (x ∷ xs) = grind (arith, first_false_is_position ok (n + 1) xs)
+pub first_by_place : {A : Type 0} (ok : A → Bool) (n : ℕ) (xs : List A) → first_false n (map ok xs) ≡ option_map (λ i. n + i) (position (λ x. not (ok x)) xs)
+first_by_place ok n [] = refl
+first_by_place ok n (x ∷ xs) = grind (arith, first_by_place ok (n + 1) xs)
 
-moved_by_0 : (o : Option ℕ) → moved_on 0 o ≡ o
+moved_by_0 : (o : Option ℕ) → option_map (λ i. 0 + i) o ≡ o
 moved_by_0 None = refl
-moved_by_0 (Some k) = ap Some (omega arith)
+moved_by_0 (Some i) = ap Some (omega arith)
 
--- numbered from 0, it is the place itself
-pub first_false_is_place : {A : Type 0} (ok : A → Bool) (xs : List A) → position (λ x. not (ok x)) xs ≡ first_false 0 (map ok xs)
-first_false_is_place ok xs = sym (first_false_is_position ok 0 xs ∙ moved_by_0 _)
+-- numbered from 0, its number is its place
+pub place_is_first : {A : Type 0} (ok : A → Bool) (xs : List A) → position (λ x. not (ok x)) xs ≡ first_false 0 (map ok xs)
+place_is_first ok xs = sym (first_by_place ok 0 xs ∙ moved_by_0 _)
 
 -- of two lists one behind the other, the first failure in front decides, and where there is none that behind
 pub first_in_front : (n : ℕ) (fs bs : List Bool) (k : ℕ) → Some k ≡ first_false n fs → Some k ≡ first_false n (fs ++ bs)
