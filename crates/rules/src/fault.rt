@@ -91,9 +91,9 @@ impl StepFault {
         ensures { result ≡ step_at place setting self.fault }
     {
         StepFault {
-            fault: self.fault,
             place,
             setting,
+            ..self
         }
     }
 }
