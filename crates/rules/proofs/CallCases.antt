@@ -1,5 +1,5 @@
 -- The making and each call by cases: refused, and then nothing changes, or granted, and then its checks were passed.
-use Rattle.std.proofs.Common.{◌≡◌, ℕ, ◌+◌, ◌-◌, ◌≤◌, Bool, true, false, cond, ◌||◌, eqb, ltb, List, [], ◌∷◌, length, Some, None, Ok, Err, Option, Result, refl, arith}
+use Rattle.std.proofs.Common.{◌≡◌, ℕ, ◌+◌, ◌-◌, ◌≤◌, Bool, true, false, cond, ◌||◌, eqb, ltb, List, [], ◌∷◌, length, Some, None, Ok, Err, Option, Result, refl}
 use Rattle.std.proofs.lemmas.Bool.{eqb-true, ltb-false, or_parts, cond_both}
 use Rattle.model.specs.Meaning.{Meaning, step}
 use Rattle.model.specs.Walk.{walk}
@@ -26,12 +26,12 @@ unless_cases P None st out refused granted = granted refl
 unless_cases P (Some e) st out refused granted = refused e
 
 not_refused : {A : Type 0} (b : Bool) (e : A) → cond b (Some e) None ≡ None → b ≡ false
-not_refused true e h = let z : ◌≡◌ {A = ℕ} 0 1 = cc in absurd (omega arith)
+not_refused true e h = cc
 not_refused false e h = refl
 
 passed : {A : Type 0} (b : Bool) (e : A) → cond b None (Some e) ≡ None → b ≡ true
 passed true e h = refl
-passed false e h = let z : ◌≡◌ {A = ℕ} 0 1 = cc in absurd (omega arith)
+passed false e h = cc
 
 -- a making closes its station, or its state is known, its limit in range and its cells enough
 pub made_cases : {S : Type 0} (m : Meaning S) (s : S) (limit cells : ℕ) (P : View S → Type 0) → ((c : Cause) → P (Closed c)) →

@@ -22,12 +22,12 @@ use Rattle.rules.proofs.Trees.{children_all, children_any}
 -- work with expansions left to it does not end as spent
 not_spent : (near none deep full : Bool) (refusal : Option StepFault) (x : Result Stop StepFault) → none ≡ false →
     cond near (Some (Ok Near)) (cond none (Some (Ok Spent)) (cond deep (Some (Ok Deep)) (cond full (Some (Ok Full)) (refused_by refusal)))) ≡ Some x → x ≡ Ok Spent → ⊥
-not_spent true none deep full refusal x e h s = let z : ◌≡◌ {A = ℕ} 0 1 = cc in omega arith
+not_spent true none deep full refusal x e h s = cc
 not_spent false true deep full refusal x e h s = true≢false e
-not_spent false false true full refusal x e h s = let z : ◌≡◌ {A = ℕ} 0 1 = cc in omega arith
-not_spent false false false true refusal x e h s = let z : ◌≡◌ {A = ℕ} 0 1 = cc in omega arith
-not_spent false false false false None x e h s = let z : ◌≡◌ {A = ℕ} 0 1 = cc in omega arith
-not_spent false false false false (Some f) x e h s = let z : ◌≡◌ {A = ℕ} 0 1 = cc in omega arith
+not_spent false false true full refusal x e h s = cc
+not_spent false false false true refusal x e h s = cc
+not_spent false false false false None x e h s = cc
+not_spent false false false false (Some f) x e h s = cc
 
 module _ {S : Type 0} where
   expansions_append : (a b : List (Node S)) → expansions (a ++ b) ≡ expansions a + expansions b

@@ -163,10 +163,10 @@ module _ {S : Type 0} (turns : List (Turn S)) where
     -- no stop applies before an expansion
     going_on : (near none deep full : Bool) (refusal : Option StepFault) →
         cond near (Some (Ok Near)) (cond none (Some (Ok Spent)) (cond deep (Some (Ok Deep)) (cond full (Some (Ok Full)) (refused_by refusal)))) ≡ None → (deep ≡ false) × (full ≡ false)
-    going_on true none deep full refusal h = let z : ◌≡◌ {A = ℕ} 0 1 = cc in absurd (omega arith)
-    going_on false true deep full refusal h = let z : ◌≡◌ {A = ℕ} 0 1 = cc in absurd (omega arith)
-    going_on false false true full refusal h = let z : ◌≡◌ {A = ℕ} 0 1 = cc in absurd (omega arith)
-    going_on false false false true refusal h = let z : ◌≡◌ {A = ℕ} 0 1 = cc in absurd (omega arith)
+    going_on true none deep full refusal h = cc
+    going_on false true deep full refusal h = cc
+    going_on false false true full refusal h = cc
+    going_on false false false true refusal h = cc
     going_on false false false false refusal h = (refl, refl)
 
     work_fits : (wanted : Option ℕ) (n : ℕ) (tree : List (Node S)) → TreeFits m.settings cells start tree → TreeFits m.settings cells start (work m r start cells wanted n tree).tree

@@ -1,5 +1,6 @@
 -- From the first granted take on, what was issued followed by what is planned stays within that take's gap.
 use Rattle.std.proofs.Common.{◌≡◌, ℕ, ◌+◌, ◌*◌, ◌^◌, ◌≤◌, ltb, List, [], ◌∷◌, ◌++◌, length, take, drop, Some, None, Ok, Err, Option, Result, sym, refl, ap, ◌∙◌, subst, append_assoc, append-nil, le_trans, le_refl, mul-le-mul_right, arith, take-append-drop}
+use Rattle.std.proofs.Math.Seq.{take-nil, drop-nil}
 use Rattle.std.proofs.lemmas.Bool.{leb-true, leb-false, cond_both}
 use Rattle.model.specs.Meaning.{Meaning, Laws}
 use Rattle.reckoning.specs.Grains.{whole}
@@ -19,7 +20,7 @@ use Rattle.rules.specs.declared.fault.StationFault.{StationFault}
 use Rattle.rules.proofs.Worths.{both_marks, low_by_tail}
 use Rattle.rules.proofs.Sequences.{known_along, length_marks, step_granted}
 use Rattle.rules.proofs.Trees.{Promises}
-use Rattle.rules.proofs.Rows.{Along, along_take, along_append, along_path, along_below, along_marks, marks_of_path, marks_of_both, take_nil, drop_nil}
+use Rattle.rules.proofs.Rows.{Along, along_take, along_append, along_path, along_below, along_marks, marks_of_path, marks_of_both}
 use Rattle.rules.proofs.CallCases.{made_cases, begun_cases, worked_cases, taken_cases, abandoned_cases, issued_cases}
 use Rattle.rules.proofs.Searches.{SearchKept, Kept, call_kept, promised, idle_kept}
 
@@ -133,7 +134,7 @@ module _ {S : Type 0} (m : Meaning S) (r : Reckoning) (law : Laws S m) (laws : R
       where
         still : (w : Row) (rest : List Row) → st.rows ≡ w ∷ rest → Along m st.present (w ∷ rest) → (t : S) → (f : Option ℕ) → Plans m r s limit f st done →
             Plans m r s limit f (issue_leaves st w rest t) (done ++ (w.mark ∷ []))
-        still w rest rows along t None u = let no_rows = u.no_rows in let z : ◌≡◌ {A = ℕ} 0 1 = cc in absurd (omega arith)
+        still w rest rows along t None u = let no_rows = u.no_rows in cc
         still w rest rows along t (Some g) u =
             let are = along_marks m law st.present (w ∷ rest) k.kept.known along in
             let e : done ++ marks_of st.rows ≡ (done ++ (w.mark ∷ [])) ++ marks_of rest =
@@ -211,19 +212,19 @@ module _ {S : Type 0} (m : Meaning S) (r : Reckoning) (law : Laws S m) (laws : R
           cond_both (replaces r st q) (take q.kept st.rows ++ planned_rows q) st.rows
           (λ (l : List Row). promise q.tree ≤ low_worth r (done ++ marks_of l))
           (λ e.
-          let e₁ : take q.kept st.rows ≡ [] = ap (take q.kept) no_rows ∙ take_nil q.kept in
+          let e₁ : take q.kept st.rows ≡ [] = ap (take q.kept) no_rows ∙ take-nil q.kept in
           let e₂ : low_worth r (done ++ marks_of (take q.kept st.rows ++ planned_rows q)) ≡ low_worth r (marks_of (planned_rows q)) = λ i. low_worth r (no_marks i ++ marks_of (e₁ i ++ planned_rows q)) in
           omega (arith, e₂, planned_worth))
           (λ e.
           let l = leb-false (standing r st q) (promise q.tree) e in
-          let e₁ : drop q.kept st.rows ≡ [] = ap (drop q.kept) no_rows ∙ drop_nil q.kept in
+          let e₁ : drop q.kept st.rows ≡ [] = ap (drop q.kept) no_rows ∙ drop-nil q.kept in
           let e₂ : standing r st q ≡ 0 = ap (λ (x : List Row). low_worth r (marks_of x)) e₁ in
           absurd (omega arith))
 
       -- a search before any row starts at the making
       started_at_making : st.rows ≡ [] → st.present ≡ s → st.last ≡ None → q.start ≡ making_start s limit
       started_at_making no_rows present_is last_is =
-          let e : take q.kept st.rows ≡ [] = ap (take q.kept) no_rows ∙ take_nil q.kept in
+          let e : take q.kept st.rows ≡ [] = ap (take q.kept) no_rows ∙ take-nil q.kept in
           f.starts ∙ (λ i. record { state = end_along m (present_is i) (settings_of (e i)); before = last_setting (last_is i) (settings_of (e i)); limit = k.limit_is i })
 
       taken_plans : (g : Option ℕ) → Plans m r s limit g st done → Plans m r s limit (or_else g (Some (gap q.tree))) (take_leaves r st q) done
@@ -296,7 +297,7 @@ module _ {S : Type 0} (m : Meaning S) (r : Reckoning) (law : Laws S m) (laws : R
   -- what a station since a making has come to
   covered : (v : View S) (done : List ℕ) (g : ℕ) → ViewSince v done (Some g) → (path : List ℕ) → Allowed m.settings (making_start s limit) path →
       BeatsByAtMost m r g (marks_along m s path) (done ++ marks_planned v)
-  covered (Closed cause) done g k path ok = let z : ◌≡◌ {A = ℕ} 0 1 = cc in absurd (omega arith)
+  covered (Closed cause) done g k path ok = cc
   covered (Live st) done g k path ok =
       let u = k.plans in
       let ours = done ++ marks_of st.rows in

@@ -1,5 +1,5 @@
 -- A refused call changes nothing, except that work keeps earlier expansions.
-use Rattle.std.proofs.Common.{◌≡◌, ℕ, zero, suc, ◌⊎◌, List, Some, None, Ok, Err, Option, Result, refl, ap, inl, inr, arith}
+use Rattle.std.proofs.Common.{◌≡◌, ℕ, zero, suc, ◌⊎◌, List, Some, None, Ok, Err, Option, Result, refl, ap, inl, inr}
 use Rattle.model.specs.Meaning.{Meaning}
 use Rattle.reckoning.specs.Meaning.{Meaning as Reckoning}
 use Rattle.rules.specs.Sequences.{Start}
@@ -16,7 +16,7 @@ use Rattle.rules.specs.declared.fault.StepFault.{StepFault}
 use Rattle.rules.proofs.CallCases.{begun_cases, worked_cases, taken_cases, abandoned_cases, issued_cases, observed_cases}
 
 granted_not_refused : {A C : Type 0} (a : A) (e : StationFault) → ◌≡◌ {A = Result A StationFault} (Ok a) (Err e) → C
-granted_not_refused a e h = let z : ◌≡◌ {A = ℕ} 0 1 = cc in absurd (omega arith)
+granted_not_refused a e h = cc
 
 module _ {S : Type 0} (m : Meaning S) (r : Reckoning) where
   -- work leaves the tree after some expansions

@@ -1,5 +1,5 @@
 -- Rows along a model, and what is left of them as the first is issued.
-use Rattle.std.proofs.Common.{◌≡◌, ℕ, zero, suc, ◌-◌, ◌<◌, true, List, [], ◌∷◌, ◌++◌, take, drop, Some, Option, refl, ap, arith}
+use Rattle.std.proofs.Common.{◌≡◌, ℕ, zero, suc, ◌-◌, ◌<◌, true, List, [], ◌∷◌, ◌++◌, take, Some, Option, refl, ap, arith}
 use Rattle.std.specs.List.{AllByRecursion}
 use Rattle.model.specs.Meaning.{Meaning, Laws}
 use Rattle.reckoning.specs.Worths.{AreMarks}
@@ -58,11 +58,3 @@ last_issued before w rest (suc k) n = let e : k ≡ suc k - 1 = omega arith in a
 pub marks_of_both : (front back : List Row) → marks_of (front ++ back) ≡ marks_of front ++ marks_of back
 marks_of_both [] back = refl
 marks_of_both (w ∷ front) back = ap (λ (l : List ℕ). w.mark ∷ l) (marks_of_both front back)
-
-pub take_nil : {X : Type 0} (k : ℕ) → ◌≡◌ {A = List X} (take k []) []
-take_nil zero = refl
-take_nil (suc k) = refl
-
-pub drop_nil : {X : Type 0} (k : ℕ) → ◌≡◌ {A = List X} (drop k []) []
-drop_nil zero = refl
-drop_nil (suc k) = refl

@@ -35,12 +35,12 @@ module _ {S : Type 0} (m : Meaning S) where
 -- a step that is granted
 pub step_granted : {A : Type 0} (known below : Bool) (x y : A) (f g : ModelFault) → ◌≡◌ {A = Result A ModelFault} (cond known (cond below (Ok x) (Err f)) (Err g)) (Ok y) → (below ≡ true) × (x ≡ y)
 step_granted true true x y f g e = (refl, cc)
-step_granted true false x y f g e = let z : ◌≡◌ {A = ℕ} 0 1 = cc in absurd (omega arith)
-step_granted false below x y f g e = let z : ◌≡◌ {A = ℕ} 0 1 = cc in absurd (omega arith)
+step_granted true false x y f g e = cc
+step_granted false below x y f g e = cc
 
 first_granted : {S : Type 0} (place : ℕ) (result : Result (ℕ × S) ModelFault) (then : S → Result S WalkFault) (end : S) → onward (at_place place result) then ≡ Ok end → (p : ℕ × S) × (result ≡ Ok p) × (then p.1 ≡ Ok end)
 first_granted place (Ok p) then end e = (p, refl, e)
-first_granted place (Err f) then end e = let z : ◌≡◌ {A = ℕ} 0 1 = cc in absurd (omega arith)
+first_granted place (Err f) then end e = cc
 
 -- a walk that is granted has only settings below K, and ends where they lead
 pub walk_granted : {S : Type 0} (m : Meaning S) (place : ℕ) (s : S) (path : List ℕ) (end : S) → walk_from m place s path ≡ Ok end → AllByRecursion (λ k. k < m.settings) path × (end ≡ end_along m s path)
@@ -67,7 +67,7 @@ switches_front before [] rest = omega arith
 switches_front before (k ∷ front) rest = let ih = switches_front (Some k) front rest in omega arith
 
 switches_repeated : (before : Option ℕ) (path : List ℕ) (k : ℕ) → last_setting before path ≡ Some k → switches before (path ++ (k ∷ [])) ≡ switches before path
-switches_repeated None [] k e = let z : ◌≡◌ {A = ℕ} 0 1 = cc in absurd (omega arith)
+switches_repeated None [] k e = cc
 switches_repeated (Some b) [] k e =
     let same : b ≡ k = cc in
     let none : switch (Some b) k ≡ 0 = cond-true (eqb b k) 0 1 (eq-eqb b k same) in
@@ -93,7 +93,7 @@ none_before before [] e = (refl, e)
 none_before before (k ∷ path) e = absurd (never k path e)
   where
     never : (x : ℕ) (rest : List ℕ) → last_setting (Some x) rest ≡ None → ⊥
-    never x [] e = let z : ◌≡◌ {A = ℕ} 0 1 = cc in omega arith
+    never x [] e = cc
     never x (y ∷ rest) e = never y rest e
 
 module _ {S : Type 0} (K : ℕ) (start : Start S) where

@@ -41,7 +41,7 @@ pub struct Report {
 // What take answers.
 #[derive(Clone, Copy, PartialEq, Eq, Debug)]
 pub struct Taken {
-    // whether the plan replaced the rows behind the kept ones
+    // whether the plan replaced the rows behind the kept ones; no Option, since both worths are told either way
     pub replaced: bool,
     // the low worth of the plan
     pub promise: u64,

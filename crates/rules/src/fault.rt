@@ -29,6 +29,7 @@ pub enum Cause {
 
 // A step that a model refused: the model's fault, the number of the row or of the node that the step
 // was made from, and its setting. This is the fault of a search; 19 is made of it.
+// It hands on the model's number and layers as a walk's fault does, which has no setting to tell.
 #[derive(Clone, Copy, PartialEq, Eq, Debug)]
 pub struct StepFault {
     pub fault: ModelFault,
@@ -91,9 +92,9 @@ impl StepFault {
         ensures { result ≡ step_at place setting self.fault }
     {
         StepFault {
-            fault: self.fault,
             place,
             setting,
+            ..self
         }
     }
 }
