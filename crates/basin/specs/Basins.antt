@@ -1,10 +1,11 @@
 -- The laws of a basin: by its comparisons the next level and inflow are known, whatever the rounding.
-use Rattle.std.specs.Prelude.{◌≡◌, ℕ, ◌-◌, ◌≤◌, true, cond, T, refl, Float}
+use Rattle.std.specs.Prelude.{◌≡◌, ℕ, ◌-◌, ◌≤◌, true, cond, T, length, refl, Float}
 use Rattle.std.proofs.Common.{ap, ◌∙◌, arith}
 use Rattle.std.specs.Float.{binary64}
 use Rattle.std.specs.Float.Ieee.{fits, add, sub, mul, lt, le, of_bits}
 use Rattle.std.specs.Float.Ieee.Fits.{sub-fits, mul-fits}
 use Rattle.std.specs.Float.Ieee.Bits.{of_bits-to_bits, of_bits-fits}
+use Rattle.std.proofs.lemmas.List.{length-take-le}
 use Rattle.std.proofs.lemmas.Bool.{and_from, and_parts, cond_both}
 use Rattle.model.specs.Meaning.{Laws}
 use Rattle.basin.specs.Bits.{water_of, bits_of}
@@ -15,7 +16,6 @@ use Rattle.basin.specs.Stepping.{water, basin, next_level, next_inflow, raw_leve
 use Rattle.basin.specs.declared.metres.Basin.{Basin}
 use Rattle.basin.specs.declared.metres.Water.{Water}
 use Rattle.basin.specs.declared.metres.WaterBits.{WaterBits}
-use Rattle.basin.specs.Costed.{settings_counted}
 use Rattle.basin.specs.Floats.{to_t, eq_itself, le_itself, le_number}
 
 -- 0 lies within any range from 0
@@ -78,6 +78,10 @@ itself p w e =
     let l = and_parts (le zero w.level) (le w.level p.depth) both.0 in
     let i = and_parts (le zero w.inflow) (le w.inflow ten) both.1 in
     and_from _ _ (eq_itself w.level (le_number zero w.level l.0)) (eq_itself w.inflow (le_number zero w.inflow i.0))
+
+-- a basin has as many settings as it counts
+pub settings_counted : (b : Basin) → length (parameters b).settings ≡ b.count
+settings_counted b = length-take-le b.count b.settings (omega arith)
 
 -- what every model owes, of a basin
 pub basin_laws : (b : Basin) → Laws WaterBits (basin (parameters b))
