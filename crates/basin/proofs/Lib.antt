@@ -1,2 +1,1 @@
 pub mod Makings
-pub mod Places

@@ -5,4 +5,3 @@ pub mod Numbers
 pub mod Ranges
 pub mod Stepping
 pub mod Basins
-pub mod Floats

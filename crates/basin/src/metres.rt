@@ -58,10 +58,11 @@ pub struct Measures {
 const PLACES: usize = 8;
 
 // A basin whose parameters are in range. Of its eight places for settings the first `count` are used.
-#[derive(Clone, Copy)]
+#[derive(Clone, Copy, Debug)]
 pub struct Basin {
     measures: Measures,
-    // K; the places are a plain array, since a basin holds no memory and is copied, so the count stands beside them
+    // K, the number of settings. It stands beside a plain array, and both are no `Vec`, since a basin
+    // is copied and takes no memory.
     count: u8,
     settings: [CostedSetting; PLACES],
     ghost one_setting: { 1 ≤ count },

@@ -1,4 +1,4 @@
-ghost use Rattle.std.specs.Prelude.{◌≡◌, ◌≤◌, not, map, cond, length, take, position, None, Ok, Err};
+ghost use Rattle.std.specs.Prelude.{◌≡◌, ◌≤◌, not, if◌then◌else◌, map, length, position, None, Ok, Err};
 ghost use Rattle.model.specs.First.{first_false};
 ghost use Rattle.basin.specs.Faults.{refusal_8};
 ghost use Rattle.basin.specs.Ranges.{ranges, measure_ranges, settings_ranges, strength_in_range, setting_in_range};
@@ -22,7 +22,7 @@ const FIRST_SETTING: u8 = 6;
 
 // Refuses the parameter with this number if it is out of range.
 fn refuse_unless(in_range: bool, parameter: u8) -> Result<(), BadParameter>
-    ensures { result ≡ cond in_range (Ok tt) (Err (refusal_8 parameter)) }
+    ensures { result ≡ (if in_range then Ok tt else Err (refusal_8 parameter)) }
 {
     if in_range {
         Ok(())
@@ -73,7 +73,7 @@ fn first_setting_out(settings: &[CostedSetting]) -> Option<usize>
 }
 
 // Refuses the first setting that is out of range, if there is one.
-#[tactic(auto, using(crate::proofs::Places::first_by_place))]
+#[tactic(auto, using(crate::proofs::Makings::first_by_place))]
 fn check_each(settings: &[CostedSetting]) -> Result<(), BadParameter>
     requires { length settings.now ≤ 8 }
     ensures { result ≡ judged (first_false 6 (map setting_in_range settings.now)) tt }
@@ -94,38 +94,22 @@ fn check_settings(settings: &[CostedSetting]) -> Result<(), BadParameter>
     check_each(settings)
 }
 
-// Refuses the first parameter that is out of range, if there is one.
-fn check(measures: Measures, settings: &[CostedSetting]) -> Result<(), BadParameter>
-    ensures { result ≡ judged (first_false 1 (ranges (given_parameters measures settings.now))) tt }
-{
-    measures.check()?;
-    check_settings(settings)
-}
-
-// The settings in eight places; rest at no cost stands in the places behind them.
-fn eight_places(settings: &[CostedSetting]) -> [CostedSetting; PLACES]
-    requires { length settings.now ≤ 8 }
-    ensures settings { take (length settings.now) result ≡ settings.now }
-    ensures eight { length result ≡ 8 }
-{
-    let mut places = [CostedSetting {
-        setting: Setting::Rest,
-        cost: 0,
-    }; PLACES];
-    places[..settings.len()].copy_from_slice(settings);
-    places
-}
-
 impl Basin {
-    // The basin with these parameters, which are all in range.
+    // The basin with these parameters, which are all in range. In the places behind the settings
+    // stands rest at no cost.
     fn with_parameters(measures: Measures, settings: &[CostedSetting]) -> Basin
         requires { first_false 1 (ranges (given_parameters measures settings.now)) ≡ None }
         ensures { parameters result ≡ given_parameters measures settings.now }
     {
+        let mut places = [CostedSetting {
+            setting: Setting::Rest,
+            cost: 0,
+        }; PLACES];
+        places[..settings.len()].copy_from_slice(settings);
         Basin {
             measures,
             count: settings.len() as u8,
-            settings: eight_places(settings),
+            settings: places,
         }
     }
 
@@ -137,7 +121,8 @@ impl Basin {
         ensures accepted_if_all_in_range { AcceptedIfAllInRange (given_parameters measures settings.now) (viewed parameters result) }
         ensures refused_at_first_out_of_range { RefusedAtFirstOutOfRange (given_parameters measures settings.now) (viewed parameters result) }
     {
-        check(measures, settings)?;
+        measures.check()?;
+        check_settings(settings)?;
         Ok(Basin::with_parameters(measures, settings))
     }
 }
