@@ -5,5 +5,3 @@ pub mod Numbers
 pub mod Ranges
 pub mod Stepping
 pub mod Basins
-pub mod Costed
-pub mod Floats

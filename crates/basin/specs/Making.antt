@@ -1,26 +1,20 @@
 -- Making a basin from its parameters, or the refusal of the first that is out of range.
-use Rattle.std.specs.Prelude.{◌≡◌, ℕ, ◌<◌, ◌≤◌, true, List, [], ◌∷◌, length, take, is_ok, Some, None, Ok, Err, Option, Result, MatchResult, Float}
+use Rattle.std.specs.Prelude.{◌≡◌, ℕ, ◌<◌, ◌≤◌, true, List, length, take, is_ok, Some, None, Ok, Err, Option, Result, MatchResult}
 use Rattle.basin.specs.Faults.{refusal_8, parameter}
 use Rattle.model.specs.First.{first_false}
 use Rattle.basin.specs.Ranges.{Parameters, ranges, ParameterInRange}
 use Rattle.basin.specs.declared.fault.BadParameter.{BadParameter}
 use Rattle.basin.specs.declared.metres.Basin.{Basin}
 use Rattle.basin.specs.declared.metres.CostedSetting.{CostedSetting}
-use Rattle.basin.specs.declared.metres.Setting.{Setting}
+use Rattle.basin.specs.declared.metres.Measures.{Measures}
 
 -- these as the parameters of a basin
-abbrev pub given_parameters : Float → Float → Float → Float → List CostedSetting → Parameters
-given_parameters depth target band fade settings = record { depth = depth; target = target; band = band; fade = fade; settings = settings }
-
--- each setting with the cost at its place
-abbrev pub costed : List Setting → List ℕ → List CostedSetting
-costed [] costs = []
-costed (s ∷ settings) [] = []
-costed (s ∷ settings) (c ∷ costs) = record { setting = s; cost = c } ∷ costed settings costs
+abbrev pub given_parameters : Measures → List CostedSetting → Parameters
+given_parameters m settings = record { depth = m.depth; target = m.target; band = m.band; fade = m.fade; settings = settings }
 
 -- the parameters that a basin was made with
 abbrev pub parameters : Basin → Parameters
-parameters b = given_parameters b.depth b.target b.band b.fade (costed (take b.count b.settings) (take b.count b.costs))
+parameters b = given_parameters b.measures (take b.count b.settings)
 
 -- a value, or refusal 8 with the number of the first parameter that is out of range
 abbrev pub judged : {A : Type 0} → Option ℕ → A → Result A BadParameter

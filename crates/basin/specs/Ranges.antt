@@ -3,6 +3,7 @@ use Rattle.std.specs.Prelude.{◌≡◌, ℕ, ◌-◌, Bool, true, ◌&&◌, Lis
 use Rattle.std.specs.Float.Ieee.{lt, le}
 use Rattle.basin.specs.Numbers.{zero, one, ten, hundred}
 use Rattle.basin.specs.declared.metres.CostedSetting.{CostedSetting}
+use Rattle.basin.specs.declared.metres.Measures.{Measures}
 use Rattle.basin.specs.declared.metres.Setting.{Setting}
 use Rattle.basin.specs.declared.metres.Setting.TheVariants.{Rest, Pump, Gate}
 
@@ -13,14 +14,6 @@ within low high x = le low x && le x high
 -- above low, to high
 abbrev pub above_to : Float → Float → Float → Bool
 above_to low high x = lt low x && le x high
-
--- a costed setting without its cost
-abbrev pub setting_of : CostedSetting → Setting
-setting_of c = c.setting
-
--- its cost
-abbrev pub cost_of : CostedSetting → ℕ
-cost_of c = c.cost
 
 -- The parameters of a basin, in their order.
 pub record Parameters : Type 0 where
@@ -65,14 +58,21 @@ fade_in_range fade = within zero one fade
 abbrev pub count_in_range : ℕ → Bool
 count_in_range count = nat_le 1 count && nat_le count 8
 
--- of each parameter from depth to K, whether it is in range
-abbrev pub number_ranges : Float → Float → Float → Float → ℕ → List Bool
-number_ranges depth target band fade count =
-    depth_in_range depth ∷ target_in_range depth target ∷ band_in_range depth band ∷ fade_in_range fade ∷ count_in_range count ∷ []
+-- of each measure in order, whether it is in range
+abbrev pub measure_ranges : Measures → List Bool
+measure_ranges m = depth_in_range m.depth ∷ target_in_range m.depth m.target ∷ band_in_range m.depth m.band ∷ fade_in_range m.fade ∷ []
+
+-- whether K is in range, and then of each setting in order, whether it is
+abbrev pub settings_ranges : List CostedSetting → List Bool
+settings_ranges settings = count_in_range (length settings) ∷ map setting_in_range settings
+
+-- the first four parameters
+abbrev pub measures_of : Parameters → Measures
+measures_of p = record { depth = p.depth; target = p.target; band = p.band; fade = p.fade }
 
 -- of each parameter in order, whether it is in range; the first has the number 1
 abbrev pub ranges : Parameters → List Bool
-ranges p = number_ranges p.depth p.target p.band p.fade (length p.settings) ++ map setting_in_range p.settings
+ranges p = measure_ranges (measures_of p) ++ settings_ranges p.settings
 
 -- the parameter with the number i is in range (1 depth, 2 target, 3 band, 4 fade, 5 K, 6 the first setting)
 abbrev pub ParameterInRange : Parameters → ℕ → Type 0

@@ -5,4 +5,4 @@ pub mod fault;
 pub mod metres;
 
 pub use fault::BadParameter;
-pub use metres::{Basin, CostedSetting, Setting, Water, WaterBits};
+pub use metres::{Basin, CostedSetting, Measures, Setting, Water, WaterBits};

@@ -1,5 +1,5 @@
 // Basins: their parameters, their marks, and states at the ends of what is known.
-use basin::{Basin, CostedSetting, Setting, Water, WaterBits};
+use basin::{Basin, CostedSetting, Measures, Setting, Water, WaterBits};
 use model::{Model, ModelFault};
 use std::test::Fail;
 
@@ -24,8 +24,17 @@ fn three_settings() -> [CostedSetting; 3] {
     ]
 }
 
+fn measures(depth: f64, target: f64, band: f64, fade: f64) -> Measures {
+    Measures {
+        depth,
+        target,
+        band,
+        fade,
+    }
+}
+
 fn small_basin() -> Result<Basin, Fail> {
-    match Basin::new(4.0, 2.0, 0.5, 0.5, &three_settings()) {
+    match Basin::new(measures(4.0, 2.0, 0.5, 0.5), &three_settings()) {
         Ok(basin) => Ok(basin),
         Err(_) => Err(Fail::new("the basin is refused")),
     }
@@ -49,7 +58,7 @@ fn after(basin: &Basin, level: f64, inflow: f64, setting: u8) -> (f64, f64) {
 
 // The number of the refusal and of the parameter, or (0, 0).
 fn refusal(depth: f64, target: f64, band: f64, fade: f64, settings: &[CostedSetting]) -> (u8, u8) {
-    match Basin::new(depth, target, band, fade, settings) {
+    match Basin::new(measures(depth, target, band, fade), settings) {
         Ok(_) => (0, 0),
         Err(fault) => (fault.number(), fault.parameter()),
     }
@@ -102,7 +111,7 @@ fn nan_is_unknown_and_minus_zero_is_zero(rt: HostRuntime) -> Result<(), Fail> {
     assert!(rt; !basin.same(nan, nan));
     assert!(rt; basin.knows(dry));
     assert!(rt; basin.same(dry, zero));
-    assert!(rt; dry.water().bits().level == MINUS_ZERO);
+    assert!(rt; WaterBits::from(Water::from(dry)).level == MINUS_ZERO);
     assert!(rt; basin.step(dry, 0).is_ok());
     match basin.step(nan, 9) {
         Ok(_) => Err(Fail::new("not-a-number is stepped")),
@@ -139,11 +148,10 @@ fn states_out_of_range_are_unknown(rt: HostRuntime) -> Result<(), Fail> {
 #[test]
 fn the_first_parameter_out_of_range_is_refused(rt: HostRuntime) {
     let three = three_settings();
-    let nan = WaterBits {
+    let nan = Water::from(WaterBits {
         level: NAN,
         inflow: 0,
-    }
-    .water()
+    })
     .level;
     assert_eq!(rt; refusal(0.0, 9.0, 9.0, 9.0, &[]), (8, 1));
     assert_eq!(rt; refusal(100.25, 2.0, 0.5, 0.5, &three), (8, 1));

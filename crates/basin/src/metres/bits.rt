@@ -4,12 +4,12 @@ ghost use Rattle.basin.specs.Bits.{bits_of, water_of};
 use crate::metres::{Water, WaterBits};
 use std::num::{f64_from_bits_with_nan, f64_to_bits_with_nan};
 
-impl Water {
-    // The bits of the level and of the inflow.
-    pub fn bits(self) -> WaterBits
-        ensures { result ≡ bits_of self }
-    {
-        let Water { level, inflow } = self;
+// The bits of the level and of the inflow.
+impl From<Water> for WaterBits {
+    ghost from_gives = { λ water bits. bits ≡ bits_of water };
+
+    fn from(water: Water) -> WaterBits {
+        let Water { level, inflow } = water;
         WaterBits {
             level: f64_to_bits_with_nan(level),
             inflow: f64_to_bits_with_nan(inflow),
@@ -17,12 +17,12 @@ impl Water {
     }
 }
 
-impl WaterBits {
-    // The level and the inflow of these bits.
-    pub fn water(self) -> Water
-        ensures { result ≡ water_of self }
-    {
-        let WaterBits { level, inflow } = self;
+// The level and the inflow of these bits.
+impl From<WaterBits> for Water {
+    ghost from_gives = { λ bits water. water ≡ water_of bits };
+
+    fn from(bits: WaterBits) -> Water {
+        let WaterBits { level, inflow } = bits;
         Water {
             level: f64_from_bits_with_nan(level),
             inflow: f64_from_bits_with_nan(inflow),

@@ -5,7 +5,7 @@ ghost use Rattle.basin.specs.Stepping.{water, basin, outflow_of, raw_level, sett
 ghost use Rattle.basin.specs.Basins.{basin_laws};
 
 use crate::metres::ranges::within;
-use crate::metres::{Basin, CostedSetting, Setting, Water, WaterBits};
+use crate::metres::{Basin, CostedSetting, Measures, Setting, Water, WaterBits};
 use model::{Model as PlantModel, ModelFault};
 
 // The greatest inflow that is known, in metres a step.
@@ -31,32 +31,10 @@ impl Setting {
     }
 }
 
-impl Basin {
-    // K, the number of settings.
-    fn settings_count(&self) -> u8
-        ensures { result ≡ length (parameters self.now).settings }
-    {
-        self.count as u8
-    }
-
-    // The setting with this number, with its cost, if it is below K.
-    fn setting_numbered(&self, setting: u8) -> Option<CostedSetting>
-        ensures { result ≡ setting_numbered (parameters self.now) setting }
-    {
-        let place = setting as usize;
-        if place < self.count {
-            Some(CostedSetting {
-                setting: self.settings[place],
-                cost: self.costs[place],
-            })
-        } else {
-            None
-        }
-    }
-
+impl Measures {
     // The raw level if it lies from 0 to the depth, the depth if it is above that, else 0.
-    fn next_level(&self, raw: f64) -> f64
-        ensures { result ≡ next_level self.now.depth raw }
+    fn next_level(self, raw: f64) -> f64
+        ensures { result ≡ next_level self.depth raw }
     {
         if within(raw, 0.0, self.depth) {
             raw
@@ -68,8 +46,8 @@ impl Basin {
     }
 
     // The inflow, faded, if that lies from 0 to 10, else 0.
-    fn next_inflow(&self, inflow: f64) -> f64
-        ensures { result ≡ next_inflow self.now.fade inflow }
+    fn next_inflow(self, inflow: f64) -> f64
+        ensures { result ≡ next_inflow self.fade inflow }
     {
         let faded = inflow * self.fade;
         if within(faded, 0.0, LARGEST_INFLOW) {
@@ -81,8 +59,8 @@ impl Basin {
 
     // The mark of a level before the cost is taken off: 1,000 if it is at most a band off the
     // target, 500 if at most two, else 0.
-    fn grade(&self, level: f64) -> u16
-        ensures { result ≡ grade self.now.target self.now.band level }
+    fn grade(self, level: f64) -> u16
+        ensures { result ≡ grade self.target self.band level }
     {
         let off = (level - self.target).abs();
         if off <= self.band {
@@ -93,19 +71,46 @@ impl Basin {
             0
         }
     }
+}
 
+impl Basin {
+    // The settings that the basin was made with, each with its cost.
+    fn costed_settings(&self) -> &[CostedSetting]
+        ensures { result.now ≡ (parameters self.now).settings }
+    {
+        &self.settings[..usize::from(self.count)]
+    }
+
+    // K, the number of settings.
+    fn settings_count(&self) -> u8
+        ensures { result ≡ length (parameters self.now).settings }
+    {
+        self.count
+    }
+
+    // The setting with this number, with its cost, if it is below K.
+    fn setting_numbered(&self, setting: u8) -> Option<CostedSetting>
+        ensures { result ≡ setting_numbered (parameters self.now) setting }
+    {
+        self.costed_settings().get(usize::from(setting)).copied()
+    }
+}
+
+// The questions and the step on doubles, passed by value. The model has the same on their bits, as
+// which a state lies in memory: a rule of the project keeps the two apart.
+impl Basin {
     // Whether the level lies from 0 to the depth and the inflow from 0 to 10.
     pub fn knows_water(&self, state: Water) -> bool
         ensures { result ≡ (water (parameters self.now)).known state }
     {
-        within(state.level, 0.0, self.depth) && within(state.inflow, 0.0, LARGEST_INFLOW)
+        within(state.level, 0.0, self.measures.depth) && within(state.inflow, 0.0, LARGEST_INFLOW)
     }
 
     // Whether both numbers of the measured state compare equal to those of the present one.
     pub fn same_water(&self, present: Water, measured: Water) -> bool
         ensures { result ≡ (water (parameters self.now)).same present measured }
     {
-        present.level == measured.level && present.inflow == measured.inflow
+        present == measured
     }
 
     // The mark of a step and the state that it leads to, or the refusal: by 1 if the state is
@@ -120,9 +125,9 @@ impl Basin {
             return Err(ModelFault::UnknownSetting { layers: 0 });
         };
         let raw = costed.setting.raw_level(state);
-        let level = self.next_level(raw);
-        let inflow = self.next_inflow(state.inflow);
-        let mark = self.grade(level).saturating_sub(costed.cost);
+        let level = self.measures.next_level(raw);
+        let inflow = self.measures.next_inflow(state.inflow);
+        let mark = self.measures.grade(level).saturating_sub(costed.cost);
         Ok((mark, Water { level, inflow }))
     }
 }
@@ -140,15 +145,15 @@ impl PlantModel for Basin {
     }
 
     fn knows(&self, state: WaterBits) -> bool {
-        self.knows_water(state.water())
+        self.knows_water(state.into())
     }
 
     fn same(&self, present: WaterBits, measured: WaterBits) -> bool {
-        self.same_water(present.water(), measured.water())
+        self.same_water(present.into(), measured.into())
     }
 
     fn step(&self, state: WaterBits, setting: u8) -> Result<(u16, WaterBits), ModelFault> {
-        let (mark, next) = self.step_water(state.water(), setting)?;
-        Ok((mark, next.bits()))
+        let (mark, next) = self.step_water(state.into(), setting)?;
+        Ok((mark, next.into()))
     }
 }
