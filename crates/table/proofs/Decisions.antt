@@ -7,10 +7,9 @@ use Rattle.model.proofs.Walks.{step_granted}
 use Rattle.table.specs.Faults.{number, value as value_of, refusal}
 use Rattle.table.specs.Layout.{record_bytes, record_at, count, last, states, settings}
 use Rattle.table.specs.Rules.{WholeRecords, Complete, InOrder, NextKnown, SoundRecord, ObeysRules, RecordBreaks, FirstBroken}
-use Rattle.table.specs.Reading.{File, whole, complete, record_fault, first_there, unless, shape, checked, with_bytes, read}
+use Rattle.table.specs.Reading.{File, Sizes, whole, complete, record_fault, first_there, unless, shape, checked, with_bytes, read}
 use Rattle.table.specs.Tables.{file, file_read, table, StepsAsRecorded, Reads}
 use Rattle.table.specs.declared.fault.TableFault.{TableFault}
-use Rattle.table.specs.declared.records.reading.Shape.{Shape}
 use Rattle.table.specs.declared.records.Table.{Table}
 use Rattle.table.proofs.Firsts.{none_there, found_there}
 
@@ -46,7 +45,7 @@ record_decided bs i = by_order bs i _ refl
 
 -- the whole file
 
-abbrev pub Decided : List ℕ → Result Shape TableFault → Type 0
+abbrev pub Decided : List ℕ → Result Sizes TableFault → Type 0
 Decided bs (Ok s) = ObeysRules bs × (s ≡ shape bs)
 Decided bs (Err f) = FirstBroken bs (number f) (value_of f)
 
@@ -129,12 +128,12 @@ keeps bs o =
       small_marks = λ i h. (o.sound_records i (omega (arith, c.1))).2;
     }
 
-pub checked_keeps : (bs : List ℕ) (s : Shape) → checked bs ≡ Ok s → Kept bs s.states s.settings
+pub checked_keeps : (bs : List ℕ) (s : Sizes) → checked bs ≡ Ok s → Kept bs s.states s.settings
 checked_keeps bs s e =
     let d = subst (Decided bs) e (checking_decides bs) in
-    subst (λ (t : Shape). Kept bs t.states t.settings) (sym d.1) (keeps bs d.0)
+    subst (λ (t : Sizes). Kept bs t.states t.settings) (sym d.1) (keeps bs d.0)
 
-reads_by : (bs : List ℕ) (c : Result Shape TableFault) → Decided bs c → checked bs ≡ c → (r : Result Table TableFault) → file_read r ≡ with_bytes bs c → Reads bs r
+reads_by : (bs : List ℕ) (c : Result Sizes TableFault) → Decided bs c → checked bs ≡ c → (r : Result Table TableFault) → file_read r ≡ with_bytes bs c → Reads bs r
 reads_by bs (Ok s) d is (Ok t) e =
     let same : file t ≡ file_of bs = cc d.1 in
     record {

@@ -1,45 +1,41 @@
 -- The first of a row of options that is there: step by step, and what its answer says of each.
-use Rattle.std.proofs.Common.{◌≡◌, ℕ, zero, suc, ◌+◌, ◌-◌, ◌<◌, ◌≤◌, true, false, is_some, Some, None, Option, sym, refl, ap, ◌∙◌, arith}
-use Rattle.std.proofs.lemmas.Bool.{false≢true}
-use Rattle.table.specs.Reading.{first_there, or_else}
+use Rattle.std.proofs.Common.{◌≡◌, ℕ, zero, suc, ◌+◌, ◌-◌, ◌<◌, Some, None, Ok, Err, Option, sym, refl, ap, ◌∙◌, arith}
+use Rattle.table.specs.Reading.{first_there, or_else, unless}
+use Rattle.table.specs.declared.fault.TableFault.{TableFault}
 
-module _ {A : Type 0} (f : ℕ → Option A) (i n : ℕ) where
-  first_step : i < n → first_there f i (n - i) ≡ or_else (f i) (first_there f (i + 1) (n - (i + 1)))
-  first_step h = let e : n - i ≡ suc (n - (i + 1)) = omega arith in ap (first_there f i) e
+-- where one is refused, its fault is there
+pub there_if_refused : {A : Type 0} (o : Option TableFault) (x : A) (e : TableFault) → unless o x ≡ Err e → o ≡ Some e
+there_if_refused (Some d) x e h = cc
+there_if_refused None x e h = cc
 
-  -- where none is left, none is found
-  pub first_ends : n ≤ i → None ≡ first_there f i (n - i)
-  first_ends h = let e : n - i ≡ 0 = omega arith in sym (ap (first_there f i) e)
+-- where it is not, no fault is there
+pub none_if_allowed : {A : Type 0} (o : Option TableFault) (x y : A) → unless o x ≡ Ok y → o ≡ None
+none_if_allowed (Some d) x y h = cc
+none_if_allowed None x y h = refl
 
-or_else_some : {A : Type 0} (o p : Option A) → is_some o ≡ true → or_else o p ≡ o
-or_else_some (Some x) p e = refl
-or_else_some None p e = absurd (false≢true e)
+module _ {A : Type 0} (f : ℕ → Option A) (i n : ℕ) (h : i < n) where
+  first_step : first_there f i (n - i) ≡ or_else (f i) (first_there f (i + 1) (n - (i + 1)))
+  first_step = let e : n - i ≡ suc (n - (i + 1)) = omega arith in ap (first_there f i) e
 
-or_else_none : {A : Type 0} (o p : Option A) → is_some o ≡ false → or_else o p ≡ p
-or_else_none (Some x) p e = absurd (false≢true (sym e))
-or_else_none None p e = refl
-
-module _ {A : Type 0} (f : ℕ → Option A) (i n : ℕ) (o : Option A) (is : o ≡ f i) (h : i < n) where
   -- where the one at i is there, it is the first of what is left
-  pub first_here : true ≡ is_some o → o ≡ first_there f i (n - i)
-  first_here e = is ∙ sym (first_step f i n h ∙ or_else_some (f i) _ (ap is_some (sym is) ∙ sym e))
+  pub first_here : (x : A) → f i ≡ Some x → first_there f i (n - i) ≡ Some x
+  first_here x e = first_step ∙ ap (λ o. or_else o (first_there f (i + 1) (n - (i + 1)))) e
 
   -- where it is not, the first is further on
-  pub first_later : false ≡ is_some o → first_there f (i + 1) (n - (i + 1)) ≡ first_there f i (n - i)
-  first_later e = sym (first_step f i n h ∙ or_else_none (f i) _ (ap is_some (sym is) ∙ sym e))
+  pub first_later : f i ≡ None → first_there f (i + 1) (n - (i + 1)) ≡ first_there f i (n - i)
+  first_later e = sym (first_step ∙ ap (λ o. or_else o (first_there f (i + 1) (n - (i + 1)))) e)
 
 neither : {A : Type 0} (o p : Option A) → or_else o p ≡ None → (o ≡ None) × (p ≡ None)
-neither (Some x) p e = let z : ◌≡◌ {A = ℕ} 0 1 = cc in let f : ⊥ = omega arith in absurd f
+neither (Some x) p e = absurd cc
 neither None p e = (refl, e)
 
 -- where none is found, there is none
 pub none_there : {A : Type 0} (f : ℕ → Option A) (a n : ℕ) → first_there f a n ≡ None → (j : ℕ) → j < n → f (a + j) ≡ None
-none_there f a zero e j h = let x : ⊥ = omega arith in absurd x
+none_there f a zero e j h = absurd (omega arith)
 none_there f a (suc n) e zero h = let z : a + 0 ≡ a = omega arith in ap f z ∙ (neither (f a) (first_there f (a + 1) n) e).0
 none_there f a (suc n) e (suc j) h =
     let z : a + suc j ≡ a + 1 + j = omega arith in
-    let l : j < n = omega arith in
-    ap f z ∙ none_there f (a + 1) n (neither (f a) (first_there f (a + 1) n) e).1 j l
+    ap f z ∙ none_there f (a + 1) n (neither (f a) (first_there f (a + 1) n) e).1 j (omega arith)
 
 -- what was found is at some place, and nothing before it
 pub record Found {A : Type 0} (f : ℕ → Option A) (a n : ℕ) (x : A) : Type 0 where
@@ -59,16 +55,13 @@ further {A} f a n x none found =
   where
     earlier : (j : ℕ) → j < suc found.place → f (a + j) ≡ None
     earlier zero h = let z : a + 0 ≡ a = omega arith in ap f z ∙ none
-    earlier (suc j) h =
-        let z : a + suc j ≡ a + 1 + j = omega arith in
-        let l : j < found.place = omega arith in
-        ap f z ∙ found.before j l
+    earlier (suc j) h = let z : a + suc j ≡ a + 1 + j = omega arith in ap f z ∙ found.before j (omega arith)
 
 found_by : {A : Type 0} (f : ℕ → Option A) (a n : ℕ) (x : A) (o : Option A) → f a ≡ o → or_else o (first_there f (a + 1) n) ≡ Some x → (first_there f (a + 1) n ≡ Some x → Found f (a + 1) n x) → Found f a (suc n) x
 found_by f a n x (Some y) is same rest =
-    record { place = 0; within = omega arith; there = (let z : a + 0 ≡ a = omega arith in ap f z ∙ is ∙ same); before = λ j h. let b : ⊥ = omega arith in absurd b }
+    record { place = 0; within = omega arith; there = (let z : a + 0 ≡ a = omega arith in ap f z ∙ is ∙ same); before = λ j h. absurd (omega arith) }
 found_by f a n x None is later rest = further f a n x is (rest later)
 
 pub found_there : {A : Type 0} (f : ℕ → Option A) (a n : ℕ) (x : A) → first_there f a n ≡ Some x → Found f a n x
-found_there f a zero x e = let z : ◌≡◌ {A = ℕ} 0 1 = cc in let b : ⊥ = omega arith in absurd b
+found_there f a zero x e = absurd cc
 found_there f a (suc n) x e = found_by f a n x (f a) refl e (found_there f (a + 1) n x)

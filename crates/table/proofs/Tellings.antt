@@ -5,10 +5,9 @@ use Rattle.std.proofs.lemmas.Bool.{and_right, cond-false}
 use Rattle.table.specs.Faults.{number, value as value_of, refusal}
 use Rattle.table.specs.Layout.{record_bytes}
 use Rattle.table.specs.Rules.{ObeysRules, FirstBroken}
-use Rattle.table.specs.Reading.{whole, checked, with_bytes, read}
+use Rattle.table.specs.Reading.{Sizes, whole, checked, with_bytes, read}
 use Rattle.table.specs.Listing.{most_bytes, refused_line, table_text, read_text, listing, Tells}
 use Rattle.table.specs.declared.fault.TableFault.{TableFault}
-use Rattle.table.specs.declared.records.reading.Shape.{Shape}
 use Rattle.table.proofs.Decisions.{Decided, checking_decides, broken_none, file_of}
 
 -- 65,537 bytes are no whole number of records
@@ -17,11 +16,11 @@ long_read bs e =
     let odd : eqb (length bs % record_bytes) 0 ≡ false = ap (λ (n : ℕ). eqb (n % record_bytes) 0) e in
     ap (with_bytes bs) (cond-false (whole bs) _ (Err (refusal 3 (length bs))) (and_right _ _ odd) ∙ ap (λ (n : ℕ). Err (refusal 3 n)) e)
 
-accepted : (bs : List ℕ) (c : Result Shape TableFault) → Decided bs c → ObeysRules bs → read_text (with_bytes bs c) ≡ table_text (file_of bs)
-accepted bs (Ok s) d o = ap (λ (t : Shape). table_text (record { bytes = bs; states = t.states; settings = t.settings })) d.1
+accepted : (bs : List ℕ) (c : Result Sizes TableFault) → Decided bs c → ObeysRules bs → read_text (with_bytes bs c) ≡ table_text (file_of bs)
+accepted bs (Ok s) d o = ap (λ (t : Sizes). table_text (record { bytes = bs; states = t.states; settings = t.settings })) d.1
 accepted bs (Err f) d o = absurd (broken_none bs _ _ o d)
 
-refused : (bs : List ℕ) (c : Result Shape TableFault) → Decided bs c → (ObeysRules bs → ⊥)
+refused : (bs : List ℕ) (c : Result Sizes TableFault) → Decided bs c → (ObeysRules bs → ⊥)
     → (n : ℕ) × (v : ℕ) × FirstBroken bs n v × (read_text (with_bytes bs c) ≡ refused_line n v)
 refused bs (Ok s) d no_rules = absurd (no_rules d.0)
 refused bs (Err f) d no_rules = (number f, value_of f, d, refl)
