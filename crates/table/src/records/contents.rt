@@ -33,8 +33,7 @@ impl Table {
     pub fn record(&self, i: usize) -> Option<Record>
         ensures { result ≡ record_numbered (file self.now) i }
     {
-        let chunk = *self.chunks().get(i)?;
-        Some(Record::from(chunk))
+        self.chunks().get(i).map(|chunk| Record::from(*chunk))
     }
 
     // The record of a known state and a setting below K, or none where one is not.

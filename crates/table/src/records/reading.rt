@@ -22,6 +22,7 @@ impl From<[u8; RECORD_BYTES]> for Record {
 }
 
 // The whole records in these bytes.
+#[tactic(auto, using(crate::proofs::Chunks::record_in_chunk))]
 pub(crate) fn chunks(bytes: &[u8]) -> &[[u8; RECORD_BYTES]]
     ensures number { length result.now ≡ count bytes.now }
     ensures each { (i : ℕ) (none : List ℕ) → i < count bytes.now
@@ -32,6 +33,7 @@ pub(crate) fn chunks(bytes: &[u8]) -> &[[u8; RECORD_BYTES]]
 }
 
 // The shape of the file, if it obeys the rules.
+#[tactic(auto, using(crate::proofs::Firsts::none_if_allowed))]
 fn check_file(bytes: &[u8]) -> Result<Shape, TableFault>
     ensures { MatchResult result
         (λ s. checked bytes.now ≡ Ok (record { states = s.states; settings = s.settings }))

@@ -63,6 +63,7 @@ impl Shape {
     }
 
     // Refuses the first record in these bytes that breaks a rule.
+    #[tactic(auto, using(crate::proofs::Firsts::first_later))]
     pub(crate) fn check_records(self, bytes: &[u8]) -> Result<(), TableFault>
         ensures { result
             ≡ unless (first_there (record_fault bytes.now self.states self.settings) 0 (count bytes.now)) tt }
