@@ -41,13 +41,12 @@ fn check_file(bytes: &[u8]) -> Result<Shape, TableFault>
 {
     let length = bytes.len();
     let records = chunks(bytes);
-    let number = records.len();
     let (Some(last), 0) = (records.last(), length % RECORD_BYTES) else {
         return Err(TableFault::BadLength { length });
     };
-    let shape = Shape::ending_with(Record::from(*last), number).ok_or(TableFault::BadCount {
-        record: number - 1,
-    })?;
+    let number = records.len();
+    let bad_count = TableFault::BadCount { record: number - 1 };
+    let shape = Shape::ending_with(Record::from(*last), number).ok_or(bad_count)?;
     shape.check_records(bytes)?;
     Ok(shape)
 }
