@@ -1,4 +1,4 @@
 pub mod Firsts
 pub mod Decisions
-pub mod Lines
 pub mod Tellings
+pub mod Chunks

@@ -5,11 +5,10 @@ use Rattle.std.proofs.lemmas.Bool.{and_right, cond-false}
 use Rattle.table.specs.Faults.{number, value as value_of, refusal}
 use Rattle.table.specs.Layout.{record_bytes}
 use Rattle.table.specs.Rules.{ObeysRules, FirstBroken}
-use Rattle.table.specs.Reading.{whole, checked, with_bytes, read}
+use Rattle.table.specs.Reading.{Sizes, whole, checked, with_bytes, read}
 use Rattle.table.specs.Listing.{most_bytes, refused_line, table_text, read_text, listing, Tells}
 use Rattle.table.specs.declared.fault.TableFault.{TableFault}
-use Rattle.table.specs.declared.records.reading.Shape.{Shape}
-use Rattle.table.proofs.Decisions.{Decided, checking_decides, broken_none, file_of}
+use Rattle.table.proofs.Decisions.{accepted, refused, broken_none, file_of}
 
 -- 65,537 bytes are no whole number of records
 long_read : (bs : List ℕ) → length bs ≡ most_bytes + 1 → read bs ≡ Err (refusal 3 (most_bytes + 1))
@@ -17,14 +16,14 @@ long_read bs e =
     let odd : eqb (length bs % record_bytes) 0 ≡ false = ap (λ (n : ℕ). eqb (n % record_bytes) 0) e in
     ap (with_bytes bs) (cond-false (whole bs) _ (Err (refusal 3 (length bs))) (and_right _ _ odd) ∙ ap (λ (n : ℕ). Err (refusal 3 n)) e)
 
-accepted : (bs : List ℕ) (c : Result Shape TableFault) → Decided bs c → ObeysRules bs → read_text (with_bytes bs c) ≡ table_text (file_of bs)
-accepted bs (Ok s) d o = ap (λ (t : Shape). table_text (record { bytes = bs; states = t.states; settings = t.settings })) d.1
-accepted bs (Err f) d o = absurd (broken_none bs _ _ o d)
+accepted_told : (bs : List ℕ) (c : Result Sizes TableFault) → checked bs ≡ c → ObeysRules bs → read_text (with_bytes bs c) ≡ table_text (file_of bs)
+accepted_told bs (Ok s) e o = rw (accepted bs s e).1
+accepted_told bs (Err f) e o = absurd (broken_none bs _ _ o (refused bs f e))
 
-refused : (bs : List ℕ) (c : Result Shape TableFault) → Decided bs c → (ObeysRules bs → ⊥)
+refused_told : (bs : List ℕ) (c : Result Sizes TableFault) → checked bs ≡ c → (ObeysRules bs → ⊥)
     → (n : ℕ) × (v : ℕ) × FirstBroken bs n v × (read_text (with_bytes bs c) ≡ refused_line n v)
-refused bs (Ok s) d no_rules = absurd (no_rules d.0)
-refused bs (Err f) d no_rules = (number f, value_of f, d, refl)
+refused_told bs (Ok s) e no_rules = absurd (no_rules (accepted bs s e).0)
+refused_told bs (Err f) e no_rules = (number f, value_of f, refused bs f e, refl)
 
 pub tells : (bs text : List ℕ) → text ≡ listing bs → Tells bs text
 tells bs text e =
@@ -32,6 +31,6 @@ tells bs text e =
     record {
       value = e;
       long_refused = λ h. e ∙ ap read_text (long_read (take (most_bytes + 1) bs) (length-take-le (most_bytes + 1) bs (omega arith)));
-      accepted_told = λ h o. e ∙ short h ∙ accepted bs (checked bs) (checking_decides bs) o;
-      refused_told = λ h o. let t = refused bs (checked bs) (checking_decides bs) o in (t.0, t.1, t.2, e ∙ short h ∙ t.3);
+      accepted_told = λ h o. e ∙ short h ∙ accepted_told bs (checked bs) refl o;
+      refused_told = λ h o. let t = refused_told bs (checked bs) refl o in (t.0, t.1, t.2, e ∙ short h ∙ t.3);
     }

@@ -13,12 +13,13 @@ within n w s k h l = omega (arith, mul-add-lt s w k n h l)
 
 pub table_laws : (t : Table) → Laws ℕ (table (file t))
 table_laws t =
-    let place : (s k : ℕ) → s < t.states → k < t.settings → s * t.settings + k < t.states * t.settings = within t.states t.settings in
+    let z = t.shape in
+    let place : (s k : ℕ) → s < z.states → k < z.settings → s * z.settings + k < z.states * z.settings = within z.states z.settings in
     record {
-      one_setting = t.one_setting;
-      few_settings = t.few_settings;
-      small_marks = λ s k e l. t.small_marks (s * t.settings + k) (place s k (ltb-true s t.states e) l);
-      next_known = λ s k e l. lt-ltb _ _ (t.next_known (s * t.settings + k) (place s k (ltb-true s t.states e) l));
+      one_setting = z.one_setting;
+      few_settings = z.few_settings;
+      small_marks = λ s k e l. t.small_marks (s * z.settings + k) (place s k (ltb-true s z.states e) l);
+      next_known = λ s k e l. lt-ltb _ _ (t.next_known (s * z.settings + k) (place s k (ltb-true s z.states e) l));
       same_itself = λ s e. eq-eqb s s refl;
       few_layers = λ s k. omega arith;
     }

@@ -7,6 +7,10 @@ use Rattle.table.specs.declared.records.Record.{Record}
 abbrev pub record_bytes : ℕ
 record_bytes = 8
 
+-- the most states: a state is numbered from 0 in two bytes
+abbrev pub most_states : ℕ
+most_states = 65536
+
 -- the number in two bytes, low byte first
 abbrev pub word : List ℕ → ℕ → ℕ
 word bs at = slice_index bs at + 256 * slice_index bs (at + 1)

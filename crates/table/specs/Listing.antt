@@ -1,5 +1,5 @@
 -- What is told of a table file: a line with N and K and a line for each record, or its refusal.
-use Rattle.std.specs.Prelude.{◌≡◌, ℕ, zero, suc, ◌+◌, ◌<◌, ◌≤◌, List, [], ◌++◌, length, take, Some, None, Ok, Err, codes, decimal, Option, Result}
+use Rattle.std.specs.Prelude.{◌≡◌, ℕ, zero, suc, ◌+◌, ◌<◌, ◌≤◌, List, [], ◌++◌, length, take, Ok, Err, codes, decimal, Result}
 use Rattle.table.specs.Faults.{number, value}
 use Rattle.table.specs.Layout.{record_at, states, settings}
 use Rattle.table.specs.Reading.{File, read}
@@ -13,22 +13,26 @@ abbrev pub most_bytes : ℕ
 most_bytes = 65536
 
 -- refused N at P
+abbrev pub refused_text : ℕ → ℕ → List ℕ
+refused_text n p = codes "refused " ++ (decimal n ++ (codes " at " ++ decimal p))
+
+-- its line
 abbrev pub refused_line : ℕ → ℕ → List ℕ
-refused_line n p = codes "refused " ++ (decimal n ++ (codes " at " ++ (decimal p ++ codes "\n")))
+refused_line n p = refused_text n p ++ codes "\n"
 
 -- states N settings K
 abbrev pub shape_line : ℕ → ℕ → List ℕ
 shape_line n k = codes "states " ++ (decimal n ++ (codes " settings " ++ (decimal k ++ codes "\n")))
 
 -- state S setting A next T mark M
-abbrev pub record_line : Record → List ℕ
-record_line r =
+abbrev pub record_text : Record → List ℕ
+record_text r =
     codes "state " ++ (decimal r.state ++ (codes " setting " ++ (decimal r.setting
-    ++ (codes " next " ++ (decimal r.next ++ (codes " mark " ++ (decimal r.mark ++ codes "\n")))))))
+    ++ (codes " next " ++ (decimal r.next ++ (codes " mark " ++ decimal r.mark))))))
 
-abbrev pub line_at : Option Record → List ℕ
-line_at (Some r) = record_line r
-line_at None = []
+-- its line
+abbrev pub record_line : Record → List ℕ
+record_line r = record_text r ++ codes "\n"
 
 -- the lines of the first n records
 abbrev pub record_lines : List ℕ → ℕ → List ℕ

@@ -11,7 +11,7 @@ use Rattle.table.specs.declared.records.Table.{Table}
 
 -- the file that a table was read from
 abbrev pub file : Table → File
-file t = record { bytes = vec_items t.bytes; states = t.states; settings = t.settings }
+file t = record { bytes = vec_items t.bytes; states = t.shape.states; settings = t.shape.settings }
 
 -- the answer of reading, with the file for the table
 abbrev pub file_read : Result Table TableFault → Result File TableFault

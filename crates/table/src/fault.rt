@@ -1,5 +1,9 @@
-ghost use Rattle.std.specs.Prelude.{◌≡◌};
+ghost use Rattle.std.specs.Prelude.{◌≡◌, Some};
 ghost use Rattle.table.specs.Faults.{number as number_of, value as value_of, RefusalsNumbered};
+ghost use Rattle.table.specs.Listing.{refused_text};
+
+use std::error::Error;
+use std::fmt;
 
 // Why a table file is refused. Records are numbered from 0.
 #[derive(Clone, Copy, PartialEq, Eq, Debug)]
@@ -37,10 +41,21 @@ impl TableFault {
     {
         match self {
             TableFault::BadLength { length } => length,
-            TableFault::BadCount { record } => record,
-            TableFault::OutOfOrder { record } => record,
-            TableFault::UnknownNext { record } => record,
-            TableFault::HighMark { record } => record,
+            TableFault::BadCount { record }
+            | TableFault::OutOfOrder { record }
+            | TableFault::UnknownNext { record }
+            | TableFault::HighMark { record } => record,
         }
     }
 }
+
+// `refused N at P`.
+impl fmt::Display for TableFault {
+    ghost output = { λ e. Some (refused_text (number_of e) (value_of e)) };
+
+    fn fmt<W: fmt::Write>(&self, f: &mut fmt::Formatter<W>) -> fmt::Result {
+        write!(f, "refused {} at {}", self.number(), self.value())
+    }
+}
+
+impl Error for TableFault {}

@@ -1,11 +1,15 @@
 // A model read off the records of a table file, which it owns.
 pub mod contents;
 pub mod reading;
+mod shape;
 pub mod stepping;
+pub mod telling;
 
 ghost use Rattle.std.specs.Prelude.{◌≡◌, ℕ, ◌*◌, ◌<◌, ◌≤◌, vec_len};
-ghost use Rattle.model.specs.Meaning.{most_settings, highest_mark};
+ghost use Rattle.model.specs.Meaning.{highest_mark};
 ghost use Rattle.table.specs.Layout.{record_bytes, record_at};
+
+use crate::records::shape::Shape;
 
 // The bytes of a record.
 pub const RECORD_BYTES: usize = 8;
@@ -23,13 +27,8 @@ pub struct Record {
 #[derive(Drop)]
 pub struct Table {
     bytes: Vec<u8>,
-    // N
-    states: usize,
-    // K
-    settings: usize,
-    ghost one_setting: { 1 ≤ settings },
-    ghost few_settings: { settings ≤ most_settings },
-    ghost complete: { vec_len bytes ≡ record_bytes * (states * settings) },
-    ghost next_known: { (i : ℕ) → i < states * settings → (record_at bytes.items i).next < states },
-    ghost small_marks: { (i : ℕ) → i < states * settings → (record_at bytes.items i).mark ≤ highest_mark },
+    shape: Shape,
+    ghost complete: { vec_len bytes ≡ record_bytes * (shape.states * shape.settings) },
+    ghost next_known: { (i : ℕ) → i < shape.states * shape.settings → (record_at bytes.items i).next < shape.states },
+    ghost small_marks: { (i : ℕ) → i < shape.states * shape.settings → (record_at bytes.items i).mark ≤ highest_mark },
 }

@@ -13,11 +13,11 @@ impl PlantModel for Table {
     ghost lawful = { table_laws };
 
     fn settings(&self) -> u8 {
-        self.settings as u8
+        self.shape.settings
     }
 
     fn knows(&self, state: u16) -> bool {
-        (state as usize) < self.states
+        usize::from(state) < self.shape.states
     }
 
     fn same(&self, present: u16, measured: u16) -> bool {
@@ -28,10 +28,9 @@ impl PlantModel for Table {
         if !self.knows(state) {
             return Err(ModelFault::UnknownState { layers: 0 });
         }
-        if setting >= self.settings() {
-            return Err(ModelFault::UnknownSetting { layers: 0 });
-        }
-        let found = self.record_of(state, setting);
+        let found = self
+            .record_of(state, setting)
+            .ok_or(ModelFault::UnknownSetting { layers: 0 })?;
         Ok((found.mark, found.next))
     }
 }
