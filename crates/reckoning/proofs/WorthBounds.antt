@@ -1,10 +1,12 @@
 -- What the laws of a reckoning give of whole lists of marks.
-use Rattle.std.proofs.Common.{ℕ, zero, suc, ◌-◌, ◌*◌, ◌^◌, ◌≤◌, List, [], ◌∷◌, ◌++◌, length, subst, le_trans, le_refl, mul-le-mul_right, mul-le-mul_left, arith}
+use Rattle.std.proofs.Common.{ℕ, zero, suc, ◌-◌, ◌*◌, ◌^◌, ◌≤◌, min, List, [], ◌∷◌, ◌++◌, length, sym, subst, le_trans, le_refl, mul-le-mul_right, mul-le-mul_left, arith}
+use Rattle.std.proofs.Math.Nat.{min-le_right}
 use Rattle.model.specs.Meaning.{highest_mark}
-use Rattle.reckoning.specs.Grains.{whole, highest_ceiling}
+use Rattle.reckoning.specs.Grains.{whole, highest_ceiling, counted}
 use Rattle.reckoning.specs.Meaning.{Meaning, Laws}
 use Rattle.reckoning.specs.Worths.{low_worth, high_worth, exact_worth, width, AreMarks, LowAtMostExact, ExactAtMostHigh, ContinuedAtMostHigh, ExactAtMostCeiling, WorthsWithinWidth}
 use Rattle.reckoning.specs.Roundings.{up_rises}
+use Rattle.reckoning.proofs.Backwards.{low_worth_as_fold, high_worth_as_fold}
 
 -- the marks at the front of a list of marks are marks
 pub front_marks : (marks more : List ℕ) → AreMarks (marks ++ more) → AreMarks marks
@@ -22,6 +24,13 @@ module _ (r : Meaning) (laws : Laws r) where
 
   pub high_joined_below_ceiling : (mark a : ℕ) → mark ≤ highest_mark → a ≤ r.ceiling → r.high mark a ≤ r.ceiling
   high_joined_below_ceiling mark a s c = le_trans (laws.high_rises mark a r.ceiling s (le_refl r.ceiling) c) (laws.ceiling_stays mark s)
+
+  -- also of marks above the highest and rests above the ceiling: no low joining is above the ceiling
+  pub low_within_ceiling : (mark rest : ℕ) → r.low mark rest ≤ r.ceiling
+  low_within_ceiling mark rest =
+      let s : counted mark ≤ highest_mark = min-le_right mark highest_mark in
+      let c : min rest r.ceiling ≤ r.ceiling = min-le_right rest r.ceiling in
+      subst (λ x. x ≤ r.ceiling) (sym (laws.low_counts mark rest)) (le_trans (low_joined_below_high (counted mark) (min rest r.ceiling) s c) (high_joined_below_ceiling (counted mark) (min rest r.ceiling) s c))
 
   -- whole lists: both worths are up to the ceiling
   pub high_below_ceiling : (marks : List ℕ) → AreMarks marks → high_worth r marks ≤ r.ceiling
@@ -79,3 +88,6 @@ module _ (r : Meaning) (laws : Laws r) where
       let ih = width_in_range depth in
       let less = mul-le-mul_right (width r depth) laws.discount_below_whole in
       omega (arith, ih, less)
+
+-- what the two worths and the width are, and all that is said of them
+pub ruleset worth_bounds = (low_worth_as_fold, high_worth_as_fold, exact_at_most_high, continued_at_most_high, exact_at_most_ceiling, low_at_most_exact, width_in_range, worths_within_width)
