@@ -1,6 +1,5 @@
 -- What the laws of a reckoning give of whole lists of marks.
-use Rattle.std.proofs.Common.{ℕ, zero, suc, ◌-◌, ◌*◌, ◌^◌, ◌≤◌, min, List, [], ◌∷◌, ◌++◌, length, sym, subst, le_trans, le_refl, mul-le-mul_right, mul-le-mul_left, arith}
-use Rattle.std.proofs.Math.Nat.{min-le_right}
+use Rattle.std.proofs.Common.{ℕ, zero, suc, ◌-◌, ◌*◌, ◌^◌, ◌≤◌, min, List, [], ◌∷◌, ◌++◌, length, subst, le_trans, le_refl, mul-le-mul_right, mul-le-mul_left, arith}
 use Rattle.model.specs.Meaning.{highest_mark}
 use Rattle.reckoning.specs.Grains.{whole, highest_ceiling, counted}
 use Rattle.reckoning.specs.Meaning.{Meaning, Laws}
@@ -14,34 +13,26 @@ front_marks [] more s = tt
 front_marks (mark ∷ marks) more s = (s.0, front_marks marks more s.1)
 
 module _ (r : Meaning) (laws : Laws r) where
-  -- one joining: low is at most high, and high at most the ceiling
-  pub low_joined_below_high : (mark a : ℕ) → mark ≤ highest_mark → a ≤ r.ceiling → r.low mark a ≤ r.high mark a
-  low_joined_below_high mark a s c =
-      let bound : a * whole ^ 0 ≤ r.ceiling * whole ^ 0 = mul-le-mul_right (whole ^ 0) c in
-      let low = laws.low_below_exact 0 mark a (a * whole ^ 0) s c bound (le_refl (a * whole ^ 0)) in
-      let high = laws.exact_below_high 0 mark a (a * whole ^ 0) s c (le_refl (a * whole ^ 0)) in
-      omega (arith, low, high)
+  -- one joining: low is at most high
+  low_joined_below_high : (mark a : ℕ) → mark ≤ highest_mark → a ≤ r.ceiling → r.low mark a ≤ r.high mark a
+  low_joined_below_high mark a s c = grind (arith, laws.low_below_exact 0 mark a a, laws.exact_below_high 0 mark a a)
 
-  pub high_joined_below_ceiling : (mark a : ℕ) → mark ≤ highest_mark → a ≤ r.ceiling → r.high mark a ≤ r.ceiling
-  high_joined_below_ceiling mark a s c = le_trans (laws.high_rises mark a r.ceiling s (le_refl r.ceiling) c) (laws.ceiling_stays mark s)
+  -- no joining is above the ceiling, whatever the mark and the rest
+  pub high_within_ceiling : (mark rest : ℕ) → r.high mark rest ≤ r.ceiling
+  high_within_ceiling mark rest = grind (arith, laws.high_counts mark rest, laws.high_rises (counted mark) (min rest r.ceiling) r.ceiling, laws.ceiling_stays (counted mark))
 
-  -- also of marks above the highest and rests above the ceiling: no low joining is above the ceiling
   pub low_within_ceiling : (mark rest : ℕ) → r.low mark rest ≤ r.ceiling
   low_within_ceiling mark rest =
-      let s : counted mark ≤ highest_mark = min-le_right mark highest_mark in
-      let c : min rest r.ceiling ≤ r.ceiling = min-le_right rest r.ceiling in
-      subst (λ x. x ≤ r.ceiling) (sym (laws.low_counts mark rest)) (le_trans (low_joined_below_high (counted mark) (min rest r.ceiling) s c) (high_joined_below_ceiling (counted mark) (min rest r.ceiling) s c))
+      grind (arith, laws.low_counts mark rest, low_joined_below_high (counted mark) (min rest r.ceiling), high_within_ceiling (counted mark) (min rest r.ceiling))
 
   -- whole lists: both worths are up to the ceiling
   pub high_below_ceiling : (marks : List ℕ) → AreMarks marks → high_worth r marks ≤ r.ceiling
   high_below_ceiling [] s = le_refl r.ceiling
-  high_below_ceiling (mark ∷ rest) s = high_joined_below_ceiling mark (high_worth r rest) s.0 (high_below_ceiling rest s.1)
+  high_below_ceiling (mark ∷ rest) s = high_within_ceiling mark (high_worth r rest)
 
   pub low_below_ceiling : (marks : List ℕ) → AreMarks marks → low_worth r marks ≤ r.ceiling
   low_below_ceiling [] s = omega arith
-  low_below_ceiling (mark ∷ rest) s =
-      let c = low_below_ceiling rest s.1 in
-      le_trans (low_joined_below_high mark (low_worth r rest) s.0 c) (high_joined_below_ceiling mark (low_worth r rest) s.0 c)
+  low_below_ceiling (mark ∷ rest) s = low_within_ceiling mark (low_worth r rest)
 
   pub low_below_high : (marks : List ℕ) → AreMarks marks → low_worth r marks ≤ high_worth r marks
   low_below_high [] s = omega arith
