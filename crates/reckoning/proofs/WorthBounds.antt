@@ -70,7 +70,7 @@ module _ (r : Meaning) (laws : Laws r) where
       omega (arith, narrowed, wider)
 
   pub worths_within_width : (depth : ℕ) → WorthsWithinWidth r depth
-  worths_within_width depth marks s counted = subst (λ n. high_worth r marks - low_worth r marks ≤ width r n) counted (within_width marks s)
+  worths_within_width depth marks s long = subst (λ n. high_worth r marks - low_worth r marks ≤ width r n) long (within_width marks s)
 
   -- a width passes no ceiling's range
   pub width_in_range : (depth : ℕ) → width r depth ≤ highest_ceiling
