@@ -34,7 +34,7 @@ pub trait Kind {
     // Every reckoning of this kind joins the two terms so.
     ghost joins_terms: { (g : ℕ) → meaning_at g ≡ joined_terms join g (meaning_at g).ceiling };
 
-    // What every reckoning owes, those of this kind do.
+    // Every reckoning of this kind meets the law of reckonings.
     ghost lawful: { (g : ℕ) → 0 < g → g < whole → Laws (meaning_at g) };
 }
 
@@ -64,7 +64,6 @@ impl<K: Kind> Discounted<K> {
     }
 }
 
-// Both questions that join count a mark above 1,000 as 1,000, and a rest above the ceiling as the ceiling.
 impl<K: Kind> Reckoning for Discounted<K> {
     ghost meaning = { λ r. K.meaning_at r.discount.thousandths };
 
@@ -94,7 +93,7 @@ impl<K: Kind> Reckoning for Discounted<K> {
     }
 }
 
-// A reckoning is copied whatever its kind. It is written out, since no derive of `Clone` goes with the ghost field here.
+// Written out, since a derive of `Clone` is refused beside a ghost field where the type has a parameter.
 impl<K: Kind> Copy for Discounted<K> {}
 
 impl<K: Kind> Clone for Discounted<K> {

@@ -35,6 +35,7 @@ pub fn width<R: Reckoning>(reckoning: &R, depth: u8) -> u64
     ensures value { result ≡ width_at (R.meaning reckoning.now) depth }
     ensures worths_within_width { WorthsWithinWidth (R.meaning reckoning.now) depth }
 {
+    // in range, as the law of every reckoning says
     let Ok(discount) = Discount::try_from(reckoning.discount()) else {
         unreachable!()
     };
