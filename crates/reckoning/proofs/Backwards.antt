@@ -8,7 +8,7 @@ use Rattle.reckoning.specs.Worths.{joined_from, low_worth, high_worth}
 
 -- whatever joins them
 module _ (join : ℕ → ℕ → ℕ) where
-  pub joined_as_fold : (start : ℕ) (marks : List ℕ) → fold (λ worth mark. join mark worth) start (reverse marks) ≡ joined_from join start marks
+  joined_as_fold : (start : ℕ) (marks : List ℕ) → fold (λ worth mark. join mark worth) start (reverse marks) ≡ joined_from join start marks
   joined_as_fold start [] = refl
   joined_as_fold start (mark ∷ marks) = rw (reverse-append (mark ∷ []) marks, fold-append, joined_as_fold start marks) refl
 

@@ -18,7 +18,7 @@ module _ (r : Meaning) (laws : Laws r) where
   low_joined_below_high mark a s c = grind (arith, laws.low_below_exact 0 mark a a, laws.exact_below_high 0 mark a a)
 
   -- no joining is above the ceiling, whatever the mark and the rest
-  pub high_within_ceiling : (mark rest : ℕ) → r.high mark rest ≤ r.ceiling
+  high_within_ceiling : (mark rest : ℕ) → r.high mark rest ≤ r.ceiling
   high_within_ceiling mark rest = grind (arith, laws.high_counts mark rest, laws.high_rises (counted mark) (min rest r.ceiling) r.ceiling, laws.ceiling_stays (counted mark))
 
   pub low_within_ceiling : (mark rest : ℕ) → r.low mark rest ≤ r.ceiling
@@ -34,7 +34,7 @@ module _ (r : Meaning) (laws : Laws r) where
   low_below_ceiling [] s = omega arith
   low_below_ceiling (mark ∷ rest) s = low_within_ceiling mark (low_worth r rest)
 
-  pub low_below_high : (marks : List ℕ) → AreMarks marks → low_worth r marks ≤ high_worth r marks
+  low_below_high : (marks : List ℕ) → AreMarks marks → low_worth r marks ≤ high_worth r marks
   low_below_high [] s = omega arith
   low_below_high (mark ∷ rest) s =
       let c = high_below_ceiling rest s.1 in

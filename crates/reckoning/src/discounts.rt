@@ -3,7 +3,6 @@ ghost use Rattle.reckoning.specs.Grains.{whole, highest_ceiling, rounded_up};
 ghost use Rattle.reckoning.specs.Worths.{one_deeper};
 
 use crate::fault::BadDiscount;
-use std::convert::TryFrom;
 
 // The thousandths in a whole; a discount is in thousandths.
 pub(crate) const WHOLE: u16 = 1000;

@@ -11,9 +11,10 @@ use crate::discounts::Discount;
 use crate::fault::BadDiscount;
 use crate::grains::grains_of;
 use crate::joinings::Reckoning;
+pub use moment::{BestMoment, TakingLarger};
 use std::alloc::AllocError;
-use std::convert::TryFrom;
 use std::marker::PhantomData;
+pub use sum::{Adding, RunningSum};
 
 // A kind of reckoning: how the two terms are joined, the grains of the mark and the discounted rest.
 pub trait Kind {

@@ -12,7 +12,5 @@ pub use discounts::Discount;
 pub use fault::BadDiscount;
 pub use grains::GRAINS_IN_POINT;
 pub use joinings::Reckoning;
-pub use kinds::moment::{BestMoment, TakingLarger};
-pub use kinds::sum::{Adding, RunningSum};
-pub use kinds::{Discounted, Kind};
+pub use kinds::{Adding, BestMoment, Discounted, Kind, RunningSum, TakingLarger};
 pub use worths::{high_worth, low_worth, width};

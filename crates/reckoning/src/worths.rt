@@ -5,7 +5,6 @@ ghost use Rattle.reckoning.specs.Worths.{low_worth, high_worth, width as width_a
 
 use crate::discounts::Discount;
 use crate::joinings::Reckoning;
-use std::convert::TryFrom;
 
 // The low worth of a list of marks, in grains: joined from the last mark to the first, beginning with 0.
 pub fn low_worth<R: Reckoning>(reckoning: &R, marks: &[u16]) -> u64
