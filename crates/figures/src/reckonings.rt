@@ -1,32 +1,13 @@
 // Reckonings: their discounts, their joinings at the ends of every range, and the worths of lists.
-use reckoning::{BestMoment, Reckoning, RunningSum, high_worth, low_worth, width};
+use reckoning::{
+    Adding, BestMoment, Discounted, Kind, Reckoning, RunningSum, TakingLarger, high_worth,
+    low_worth, width,
+};
 use std::test::Fail;
 
-fn sum(discount: u16) -> Result<RunningSum, Fail> {
-    match RunningSum::new(discount) {
-        Ok(sum) => Ok(sum),
-        Err(_) => Err(Fail::new("the discount is refused")),
-    }
-}
-
-fn moment(discount: u16) -> Result<BestMoment, Fail> {
-    match BestMoment::new(discount) {
-        Ok(moment) => Ok(moment),
-        Err(_) => Err(Fail::new("the discount is refused")),
-    }
-}
-
-// The number and the value of the refusal of a running sum, or (0, 0).
-fn sum_refusal(discount: u16) -> (u8, u16) {
-    match RunningSum::new(discount) {
-        Ok(_) => (0, 0),
-        Err(fault) => (fault.number(), fault.discount()),
-    }
-}
-
-// The same of a best moment.
-fn moment_refusal(discount: u16) -> (u8, u16) {
-    match BestMoment::new(discount) {
+// The number and the value of the refusal of a reckoning of this kind, or (0, 0).
+fn refusal<K: Kind>(discount: u16) -> (u8, u16) {
+    match Discounted::<K>::new(discount) {
         Ok(_) => (0, 0),
         Err(fault) => (fault.number(), fault.discount()),
     }
@@ -44,22 +25,22 @@ fn worths<R: Reckoning>(reckoning: &R, marks: &[u16]) -> (u64, u64) {
 
 #[test]
 fn discounts_from_1_to_999_are_made(rt: HostRuntime) -> Result<(), Fail> {
-    assert_eq!(rt; sum_refusal(0), (10, 0));
-    assert_eq!(rt; sum_refusal(1000), (10, 1000));
-    assert_eq!(rt; sum_refusal(65535), (10, 65535));
-    assert_eq!(rt; moment_refusal(0), (10, 0));
-    assert_eq!(rt; moment_refusal(1000), (10, 1000));
-    assert_eq!(rt; moment_refusal(65535), (10, 65535));
-    assert_eq!(rt; sum(1)?.discount(), 1);
-    assert_eq!(rt; sum(999)?.discount(), 999);
-    assert_eq!(rt; moment(1)?.discount(), 1);
-    assert_eq!(rt; moment(999)?.discount(), 999);
+    assert_eq!(rt; refusal::<Adding>(0), (10, 0));
+    assert_eq!(rt; refusal::<Adding>(1000), (10, 1000));
+    assert_eq!(rt; refusal::<Adding>(65535), (10, 65535));
+    assert_eq!(rt; refusal::<TakingLarger>(0), (10, 0));
+    assert_eq!(rt; refusal::<TakingLarger>(1000), (10, 1000));
+    assert_eq!(rt; refusal::<TakingLarger>(65535), (10, 65535));
+    assert_eq!(rt; RunningSum::new(1)?.discount(), 1);
+    assert_eq!(rt; RunningSum::new(999)?.discount(), 999);
+    assert_eq!(rt; BestMoment::new(1)?.discount(), 1);
+    assert_eq!(rt; BestMoment::new(999)?.discount(), 999);
     Ok(())
 }
 
 #[test]
 fn the_sum_at_the_ends_of_its_ranges(rt: HostRuntime) -> Result<(), Fail> {
-    let least = sum(1)?;
+    let least = RunningSum::new(1)?;
     assert_eq!(rt; least.ceiling(), 1_001_002);
     assert_eq!(rt; joined(&least, 0, 0), (0, 0));
     // one thousandth of 999, 1,000 and 1,001 grains
@@ -72,8 +53,11 @@ fn the_sum_at_the_ends_of_its_ranges(rt: HostRuntime) -> Result<(), Fail> {
     assert_eq!(rt; joined(&least, 1000, 1_001_002), (1_001_001, 1_001_002));
     assert_eq!(rt; joined(&least, 65535, u64::MAX), (1_001_001, 1_001_002));
     // 333 thousandths of 1,499,251 grains are 499,250.583
-    assert_eq!(rt; joined(&sum(333)?, 0, u64::MAX), (499_250, 499_251));
-    let greatest = sum(999)?;
+    assert_eq!(rt;
+        joined(&RunningSum::new(333)?, 0, u64::MAX),
+        (499_250, 499_251)
+    );
+    let greatest = RunningSum::new(999)?;
     assert_eq!(rt; greatest.ceiling(), 1_000_000_000);
     assert_eq!(rt; joined(&greatest, 0, 1), (0, 1));
     assert_eq!(rt;
@@ -85,14 +69,14 @@ fn the_sum_at_the_ends_of_its_ranges(rt: HostRuntime) -> Result<(), Fail> {
 
 #[test]
 fn the_best_moment_at_the_ends_of_its_ranges(rt: HostRuntime) -> Result<(), Fail> {
-    let least = moment(1)?;
+    let least = BestMoment::new(1)?;
     assert_eq!(rt; least.ceiling(), 1_000_000);
     assert_eq!(rt; joined(&least, 0, 0), (0, 0));
     assert_eq!(rt; joined(&least, 0, 999), (0, 1));
     assert_eq!(rt; joined(&least, 0, u64::MAX), (1000, 1000));
     assert_eq!(rt; joined(&least, 1, u64::MAX), (1000, 1000));
     assert_eq!(rt; joined(&least, 2, u64::MAX), (2000, 2000));
-    let greatest = moment(999)?;
+    let greatest = BestMoment::new(999)?;
     assert_eq!(rt; greatest.ceiling(), 1_000_000);
     assert_eq!(rt; joined(&greatest, 0, 1), (0, 1));
     assert_eq!(rt; joined(&greatest, 998, 1_000_000), (999_000, 999_000));
@@ -104,7 +88,7 @@ fn the_best_moment_at_the_ends_of_its_ranges(rt: HostRuntime) -> Result<(), Fail
 
 #[test]
 fn worths_join_the_last_mark_first(rt: HostRuntime) -> Result<(), Fail> {
-    let sum = sum(333)?;
+    let sum = RunningSum::new(333)?;
     assert_eq!(rt; worths(&sum, &[]), (0, 1_499_251));
     // from above: 1,499,251, then 500,251, then 167,584, then 56,806
     assert_eq!(rt; worths(&sum, &[1, 1, 1]), (1443, 56_806));
@@ -112,7 +96,7 @@ fn worths_join_the_last_mark_first(rt: HostRuntime) -> Result<(), Fail> {
     assert_eq!(rt; low_worth(&sum, &[2, 1]), 2333);
     // a mark of 65,535 counts as 1,000
     assert_eq!(rt; low_worth(&sum, &[1, 65535]), 334_000);
-    let moment = moment(900)?;
+    let moment = BestMoment::new(900)?;
     assert_eq!(rt; worths(&moment, &[]), (0, 1_000_000));
     assert_eq!(rt; worths(&moment, &[500, 900]), (810_000, 810_000));
     assert_eq!(rt; worths(&moment, &[900, 500]), (900_000, 900_000));
@@ -122,13 +106,13 @@ fn worths_join_the_last_mark_first(rt: HostRuntime) -> Result<(), Fail> {
 
 #[test]
 fn widths_from_depth_0_to_255(rt: HostRuntime) -> Result<(), Fail> {
-    let half = sum(500)?;
+    let half = RunningSum::new(500)?;
     assert_eq!(rt; width(&half, 0), 2_000_000);
     assert_eq!(rt; width(&half, 1), 1_000_001);
     assert_eq!(rt; width(&half, 2), 500_002);
     // 56,806 less 1,443
-    assert_eq!(rt; width(&sum(333)?, 3), 55_363);
-    let least = moment(1)?;
+    assert_eq!(rt; width(&RunningSum::new(333)?, 3), 55_363);
+    let least = BestMoment::new(1)?;
     assert_eq!(rt; width(&least, 1), 1001);
     assert_eq!(rt; width(&least, 2), 3);
     assert_eq!(rt; width(&least, 3), 2);

@@ -1,10 +1,11 @@
 -- What the laws of a reckoning give of whole lists of marks.
-use Rattle.std.proofs.Common.{ℕ, zero, suc, ◌-◌, ◌*◌, ◌^◌, ◌≤◌, List, [], ◌∷◌, ◌++◌, length, subst, le_trans, le_refl, mul-le-mul_right, mul-le-mul_left, arith}
+use Rattle.std.proofs.Common.{ℕ, zero, suc, ◌-◌, ◌*◌, ◌^◌, ◌≤◌, min, List, [], ◌∷◌, ◌++◌, length, subst, le_trans, le_refl, mul-le-mul_right, mul-le-mul_left, arith}
 use Rattle.model.specs.Meaning.{highest_mark}
-use Rattle.reckoning.specs.Grains.{whole, highest_ceiling}
+use Rattle.reckoning.specs.Grains.{whole, highest_ceiling, counted}
 use Rattle.reckoning.specs.Meaning.{Meaning, Laws}
 use Rattle.reckoning.specs.Worths.{low_worth, high_worth, exact_worth, width, AreMarks, LowAtMostExact, ExactAtMostHigh, ContinuedAtMostHigh, ExactAtMostCeiling, WorthsWithinWidth}
 use Rattle.reckoning.specs.Roundings.{up_rises}
+use Rattle.reckoning.proofs.Backwards.{low_worth_as_fold, high_worth_as_fold}
 
 -- the marks at the front of a list of marks are marks
 pub front_marks : (marks more : List ℕ) → AreMarks (marks ++ more) → AreMarks marks
@@ -12,29 +13,28 @@ front_marks [] more s = tt
 front_marks (mark ∷ marks) more s = (s.0, front_marks marks more s.1)
 
 module _ (r : Meaning) (laws : Laws r) where
-  -- one joining: low is at most high, and high at most the ceiling
-  pub low_joined_below_high : (mark a : ℕ) → mark ≤ highest_mark → a ≤ r.ceiling → r.low mark a ≤ r.high mark a
-  low_joined_below_high mark a s c =
-      let bound : a * whole ^ 0 ≤ r.ceiling * whole ^ 0 = mul-le-mul_right (whole ^ 0) c in
-      let low = laws.low_below_exact 0 mark a (a * whole ^ 0) s c bound (le_refl (a * whole ^ 0)) in
-      let high = laws.exact_below_high 0 mark a (a * whole ^ 0) s c (le_refl (a * whole ^ 0)) in
-      omega (arith, low, high)
+  -- one joining: low is at most high
+  low_joined_below_high : (mark a : ℕ) → mark ≤ highest_mark → a ≤ r.ceiling → r.low mark a ≤ r.high mark a
+  low_joined_below_high mark a s c = grind (arith, laws.low_below_exact 0 mark a a, laws.exact_below_high 0 mark a a)
 
-  pub high_joined_below_ceiling : (mark a : ℕ) → mark ≤ highest_mark → a ≤ r.ceiling → r.high mark a ≤ r.ceiling
-  high_joined_below_ceiling mark a s c = le_trans (laws.high_rises mark a r.ceiling s (le_refl r.ceiling) c) (laws.ceiling_stays mark s)
+  -- no joining is above the ceiling, whatever the mark and the rest
+  high_within_ceiling : (mark rest : ℕ) → r.high mark rest ≤ r.ceiling
+  high_within_ceiling mark rest = grind (arith, laws.high_counts mark rest, laws.high_rises (counted mark) (min rest r.ceiling) r.ceiling, laws.ceiling_stays (counted mark))
+
+  pub low_within_ceiling : (mark rest : ℕ) → r.low mark rest ≤ r.ceiling
+  low_within_ceiling mark rest =
+      grind (arith, laws.low_counts mark rest, low_joined_below_high (counted mark) (min rest r.ceiling), high_within_ceiling (counted mark) (min rest r.ceiling))
 
   -- whole lists: both worths are up to the ceiling
   pub high_below_ceiling : (marks : List ℕ) → AreMarks marks → high_worth r marks ≤ r.ceiling
   high_below_ceiling [] s = le_refl r.ceiling
-  high_below_ceiling (mark ∷ rest) s = high_joined_below_ceiling mark (high_worth r rest) s.0 (high_below_ceiling rest s.1)
+  high_below_ceiling (mark ∷ rest) s = high_within_ceiling mark (high_worth r rest)
 
   pub low_below_ceiling : (marks : List ℕ) → AreMarks marks → low_worth r marks ≤ r.ceiling
   low_below_ceiling [] s = omega arith
-  low_below_ceiling (mark ∷ rest) s =
-      let c = low_below_ceiling rest s.1 in
-      le_trans (low_joined_below_high mark (low_worth r rest) s.0 c) (high_joined_below_ceiling mark (low_worth r rest) s.0 c)
+  low_below_ceiling (mark ∷ rest) s = low_within_ceiling mark (low_worth r rest)
 
-  pub low_below_high : (marks : List ℕ) → AreMarks marks → low_worth r marks ≤ high_worth r marks
+  low_below_high : (marks : List ℕ) → AreMarks marks → low_worth r marks ≤ high_worth r marks
   low_below_high [] s = omega arith
   low_below_high (mark ∷ rest) s =
       let c = high_below_ceiling rest s.1 in
@@ -70,7 +70,7 @@ module _ (r : Meaning) (laws : Laws r) where
       omega (arith, narrowed, wider)
 
   pub worths_within_width : (depth : ℕ) → WorthsWithinWidth r depth
-  worths_within_width depth marks s counted = subst (λ n. high_worth r marks - low_worth r marks ≤ width r n) counted (within_width marks s)
+  worths_within_width depth marks s long = subst (λ n. high_worth r marks - low_worth r marks ≤ width r n) long (within_width marks s)
 
   -- a width passes no ceiling's range
   pub width_in_range : (depth : ℕ) → width r depth ≤ highest_ceiling
@@ -79,3 +79,6 @@ module _ (r : Meaning) (laws : Laws r) where
       let ih = width_in_range depth in
       let less = mul-le-mul_right (width r depth) laws.discount_below_whole in
       omega (arith, ih, less)
+
+-- what the two worths and the width are, and all that is said of them
+pub ruleset worth_bounds = (low_worth_as_fold, high_worth_as_fold, exact_at_most_high, continued_at_most_high, exact_at_most_ceiling, low_at_most_exact, width_in_range, worths_within_width)

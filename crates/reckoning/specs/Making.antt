@@ -1,9 +1,9 @@
--- Making a reckoning with a discount.
+-- Making a discount, and a reckoning with it.
 use Rattle.std.specs.Prelude.{ℕ, Bool, cond, ◌&&◌, Ok, Err, Result, nat_lt}
 use Rattle.reckoning.specs.Grains.{whole}
 use Rattle.reckoning.specs.declared.fault.BadDiscount.{BadDiscount}
-use Rattle.reckoning.specs.declared.kinds.RunningSum.{RunningSum}
-use Rattle.reckoning.specs.declared.kinds.BestMoment.{BestMoment}
+use Rattle.reckoning.specs.declared.discounts.Discount.{Discount}
+use Rattle.reckoning.specs.declared.kinds.Discounted.{Discounted}
 
 -- the refusal's number, and what is returned with it
 abbrev pub discount_number : BadDiscount → ℕ
@@ -20,11 +20,12 @@ discount_in_range g = nat_lt 0 g && nat_lt g whole
 abbrev pub made_with : ℕ → Result ℕ BadDiscount
 made_with g = cond (discount_in_range g) (Ok g) (Err (record { discount = g }))
 
--- the discount that a reckoning was made with; it says all that the reckoning means
-abbrev pub sum_discount : Result RunningSum BadDiscount → Result ℕ BadDiscount
-sum_discount (Ok r) = Ok r.discount
-sum_discount (Err f) = Err f
+-- the thousandths of the discount that was made
+abbrev pub thousandths_made : Result Discount BadDiscount → Result ℕ BadDiscount
+thousandths_made (Ok d) = Ok d.thousandths
+thousandths_made (Err f) = Err f
 
-abbrev pub moment_discount : Result BestMoment BadDiscount → Result ℕ BadDiscount
-moment_discount (Ok r) = Ok r.discount
-moment_discount (Err f) = Err f
+-- the discount that a reckoning was made with; it says all that the reckoning means
+abbrev pub discount_made : {K : _} {kind : _} → Result (Discounted K kind) BadDiscount → Result ℕ BadDiscount
+discount_made (Ok r) = Ok r.discount.thousandths
+discount_made (Err f) = Err f

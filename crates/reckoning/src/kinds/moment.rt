@@ -1,30 +1,35 @@
+ghost use Rattle.std.specs.Prelude.{max, refl};
 ghost use Rattle.reckoning.specs.Kinds.{best_moment};
 ghost use Rattle.reckoning.specs.KindLaws.{moment_laws};
 
-use crate::grains::{discounted_down, discounted_up, grains_of};
-use crate::joinings::Reckoning;
-use crate::kinds::BestMoment;
+use crate::discounts::Discount;
+use crate::grains::grains_of;
+use crate::kinds::{Discounted, Kind};
 use model::HIGHEST_MARK;
 
-// The best moment takes the larger of the grains of the mark and the discounted rest.
-impl Reckoning for BestMoment {
-    ghost meaning = { λ r. best_moment r.discount };
+// The best moment: only the mark that counts for most.
+// In the field's terms: the discounted maximum of the rewards.
+pub type BestMoment = Discounted<TakingLarger>;
 
-    ghost lawful = { λ r. moment_laws r.discount r.discount_above_0 r.discount_below_whole };
+// The kind of the best moment: the larger of the two terms is taken.
+#[derive(Clone, Copy, Debug, PartialEq, Eq)]
+pub struct TakingLarger;
 
-    fn discount(&self) -> u16 {
-        self.discount
+impl Kind for TakingLarger {
+    ghost meaning_at = { best_moment };
+
+    ghost join = { λ a b. max a b };
+
+    ghost joins_terms = { λ g. refl };
+
+    ghost lawful = { moment_laws };
+
+    fn joined(mark: u64, rest: u64) -> u64 {
+        mark.max(rest)
     }
 
-    fn ceiling(&self) -> u64 {
+    // The highest mark at once, whatever the discount.
+    fn ceiling(_discount: Discount) -> u64 {
         grains_of(HIGHEST_MARK)
-    }
-
-    fn low(&self, mark: u16, rest: u64) -> u64 {
-        grains_of(mark).max(discounted_down(self.discount, rest.min(self.ceiling())))
-    }
-
-    fn high(&self, mark: u16, rest: u64) -> u64 {
-        grains_of(mark).max(discounted_up(self.discount, rest.min(self.ceiling())))
     }
 }

@@ -1,29 +1,36 @@
+ghost use Rattle.std.specs.Prelude.{◌+◌, refl};
 ghost use Rattle.reckoning.specs.Kinds.{running_sum};
 ghost use Rattle.reckoning.specs.KindLaws.{sum_laws};
 
-use crate::grains::{discounted_down, discounted_up, grains_of};
-use crate::joinings::Reckoning;
-use crate::kinds::RunningSum;
+use crate::discounts::{Discount, WHOLE};
+use crate::grains::grains_of;
+use crate::kinds::{Discounted, Kind};
+use model::HIGHEST_MARK;
 
-// The running sum adds the grains of the mark and the discounted rest.
-impl Reckoning for RunningSum {
-    ghost meaning = { λ r. running_sum r.discount };
+// The running sum: every mark counts, and a later one counts less.
+// In the field's terms: the discounted sum of the rewards.
+pub type RunningSum = Discounted<Adding>;
 
-    ghost lawful = { λ r. sum_laws r.discount r.discount_above_0 r.discount_below_whole };
+// The kind of the running sum: the two terms are added.
+#[derive(Clone, Copy, Debug, PartialEq, Eq)]
+pub struct Adding;
 
-    fn discount(&self) -> u16 {
-        self.discount
+impl Kind for Adding {
+    ghost meaning_at = { running_sum };
+
+    ghost join = { λ a b. a + b };
+
+    ghost joins_terms = { λ g. refl };
+
+    ghost lawful = { sum_laws };
+
+    fn joined(mark: u64, rest: u64) -> u64 {
+        mark.saturating_add(rest)
     }
 
-    fn ceiling(&self) -> u64 {
-        self.ceiling
-    }
-
-    fn low(&self, mark: u16, rest: u64) -> u64 {
-        grains_of(mark) + discounted_down(self.discount, rest.min(self.ceiling))
-    }
-
-    fn high(&self, mark: u16, rest: u64) -> u64 {
-        grains_of(mark) + discounted_up(self.discount, rest.min(self.ceiling))
+    // The highest mark at every step: its grains, divided by what the discount leaves of a whole, rounded up.
+    fn ceiling(discount: Discount) -> u64 {
+        let left = WHOLE - discount.thousandths();
+        (grains_of(HIGHEST_MARK) * u64::from(WHOLE)).div_ceil(u64::from(left))
     }
 }
