@@ -1,18 +1,11 @@
 -- The first parameter of a basin that is out of range, and what acceptance and refusal say of the parameters.
-use Rattle.std.proofs.Common.{◌≡◌, ℕ, ◌+◌, ◌-◌, ◌<◌, ◌≤◌, Bool, true, false, not, List, [], ◌∷◌, map, length, get_or, Some, None, Option, Result, refl, subst, arith}
-use Rattle.std.specs.List.{position}
-use Rattle.std.specs.Option.{option_map}
+use Rattle.std.proofs.Common.{◌≡◌, ℕ, ◌-◌, ◌<◌, ◌≤◌, Bool, true, false, List, length, get_or, Some, None, Option, Result, refl, subst, arith}
 use Rattle.std.proofs.lemmas.Bool.{both_ways, false≢true}
 use Rattle.model.specs.First.{first_false}
 use Rattle.model.proofs.Firsts.{each_passes, found_first}
 use Rattle.basin.specs.Ranges.{Parameters, ranges}
 use Rattle.basin.specs.Making.{judged, made, AcceptedIfAllInRange, RefusedAtFirstOutOfRange}
 use Rattle.basin.specs.declared.fault.BadParameter.{BadParameter}
-
--- the number of the first item that fails a test, by its place in the list
-pub first_by_place : {A : Type 0} (ok : A → Bool) (n : ℕ) (xs : List A) → first_false n (map ok xs) ≡ option_map (λ i. n + i) (position (λ x. not (ok x)) xs)
-first_by_place ok n [] = refl
-first_by_place ok n (x ∷ xs) = grind (arith, first_by_place ok (n + 1) xs)
 
 -- the first failure stands one place before its number, and all before it pass
 first_from_1 : (bs : List Bool) (n : ℕ) → first_false 1 bs ≡ Some n → (1 ≤ n) × (n ≤ length bs) × (get_or bs (n - 1) true ≡ false) × ((i : ℕ) → 1 ≤ i → i < n → get_or bs (i - 1) true ≡ true)

@@ -1,11 +1,11 @@
 -- The laws of a basin: by its comparisons the next level and inflow are known, whatever the rounding.
 use Rattle.std.specs.Prelude.{◌≡◌, ℕ, true, length, refl, Float}
-use Rattle.std.proofs.Common.{inl, inr, ap, ◌∙◌, arith}
+use Rattle.std.proofs.Common.{ap, ◌∙◌, arith}
 use Rattle.std.specs.Float.{binary64}
-use Rattle.std.specs.Float.Ieee.{fits, add, le, eq, of_bits}
+use Rattle.std.specs.Float.Ieee.{fits, add, le, of_bits}
 use Rattle.std.specs.Float.Ieee.Fits.{sub-fits, mul-fits}
 use Rattle.std.specs.Float.Ieee.Bits.{of_bits-to_bits, of_bits-fits, is_true}
-use Rattle.std.proofs.lemmas.Float.{T_from_true, le_refl, le_right, lt-or-eq, lt_irrefl}
+use Rattle.std.proofs.lemmas.Float.{T_from_true}
 use Rattle.std.proofs.lemmas.List.{length-take-le}
 use Rattle.model.specs.Meaning.{Laws}
 use Rattle.basin.specs.Bits.{water_of, bits_of}
@@ -13,16 +13,10 @@ use Rattle.basin.specs.Making.{parameters}
 use Rattle.basin.specs.Numbers.{zero, ten}
 use Rattle.basin.specs.Ranges.{Parameters, within}
 use Rattle.basin.specs.Stepping.{water, basin, setting_at, next, outflow_of}
+use Rattle.basin.specs.Floats.{le_itself, eq_itself, le_number}
 use Rattle.basin.specs.declared.metres.Basin.{Basin}
 use Rattle.basin.specs.declared.metres.Water.{Water}
 use Rattle.basin.specs.declared.metres.WaterBits.{WaterBits}
-
--- what is at least some number is no not-a-number, so it is at most itself, and equals itself
-le_itself : (low x : Float) → le low x ≡ true → le x x ≡ true
-le_itself low x e = is_true _ (le_refl x (le_right low x (T_from_true _ e)))
-
-eq_itself : (low x : Float) → le low x ≡ true → eq x x ≡ true
-eq_itself low x e = elim (lt-or-eq x x (T_from_true _ (le_itself low x e))) [ inl l ↦ absurd (lt_irrefl x l) | inr same ↦ is_true _ same ]
 
 -- 0 lies within any range from 0
 zero_in : (high : Float) → le zero high ≡ true → within zero high zero ≡ true
@@ -36,7 +30,7 @@ zero_in_inflows = refl
 -- The next level passed the comparison with 0 and the depth, or is the depth, or 0; the next inflow
 -- passed that with 0 and 10, or is 0. So the next state is known.
 next_known : (p : Parameters) → le zero p.depth ≡ true → (w : Water) (k : ℕ) → (water p).known (next p w k) ≡ true
-next_known p above w k = grind (arith, zero_in p.depth above, le_itself zero p.depth above, zero_in_inflows)
+next_known p above w k = grind (arith, zero_in p.depth above, le_itself p.depth (le_number zero p.depth above), zero_in_inflows)
 
 -- Both are doubles, so the bits of the next state are read as that state.
 bits_and_back : (p : Parameters) → fits binary64 p.depth ≡ true → (w : Water) (k : ℕ) → water_of (bits_of (next p w k)) ≡ next p w k
@@ -50,14 +44,17 @@ bits_and_back p held w k =
 
 -- a known state has no not-a-number, so it is the same as itself
 itself : (p : Parameters) (w : Water) → (water p).known w ≡ true → (water p).same w w ≡ true
-itself p w e = grind (arith, eq_itself zero w.level, eq_itself zero w.inflow)
+itself p w e = grind (arith, le_number zero w.level, eq_itself w.level, le_number zero w.inflow, eq_itself w.inflow)
+
+-- a basin has as many settings as it counts
+pub settings_counted : (b : Basin) → length (parameters b).settings ≡ b.count
+settings_counted b = length-take-le b.count b.settings (omega arith)
 
 -- what every model owes, of a basin
 pub basin_laws : (b : Basin) → Laws WaterBits (basin (parameters b))
 basin_laws b =
     let p = parameters b in
-    -- a basin has as many settings as it counts
-    let counted : length p.settings ≡ b.count = length-take-le b.count b.settings (omega arith) in
+    let counted = settings_counted b in
     record {
       one_setting = omega arith;
       few_settings = omega arith;

@@ -5,3 +5,4 @@ pub mod Numbers
 pub mod Ranges
 pub mod Stepping
 pub mod Basins
+pub mod Floats

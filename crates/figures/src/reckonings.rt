@@ -1,16 +1,13 @@
 // Reckonings: their discounts, their joinings at the ends of every range, and the worths of lists.
-use reckoning::{
-    Adding, BestMoment, Discounted, Kind, Reckoning, RunningSum, TakingLarger, high_worth,
-    low_worth, width,
-};
+use reckoning::{BadDiscount, BestMoment, Reckoning, RunningSum, high_worth, low_worth, width};
 use std::test::Fail;
 
-// The number and the value of the refusal of a reckoning of this kind, or (0, 0).
-fn refusal<K: Kind>(discount: u16) -> (u8, u16) {
-    match Discounted::<K>::new(discount) {
-        Ok(_) => (0, 0),
-        Err(fault) => (fault.number(), fault.discount()),
-    }
+// The number and the value of a refusal, if it is one.
+fn refusal<R>(made: Result<R, BadDiscount>) -> Option<(u8, u16)>
+where
+    R: Drop,
+{
+    made.err().map(|fault| (fault.number(), fault.discount()))
 }
 
 // The low and the high joining.
@@ -25,12 +22,12 @@ fn worths<R: Reckoning>(reckoning: &R, marks: &[u16]) -> (u64, u64) {
 
 #[test]
 fn discounts_from_1_to_999_are_made(rt: HostRuntime) -> Result<(), Fail> {
-    assert_eq!(rt; refusal::<Adding>(0), (10, 0));
-    assert_eq!(rt; refusal::<Adding>(1000), (10, 1000));
-    assert_eq!(rt; refusal::<Adding>(65535), (10, 65535));
-    assert_eq!(rt; refusal::<TakingLarger>(0), (10, 0));
-    assert_eq!(rt; refusal::<TakingLarger>(1000), (10, 1000));
-    assert_eq!(rt; refusal::<TakingLarger>(65535), (10, 65535));
+    assert_eq!(rt; refusal(RunningSum::new(0)), Some((10, 0)));
+    assert_eq!(rt; refusal(RunningSum::new(1000)), Some((10, 1000)));
+    assert_eq!(rt; refusal(RunningSum::new(65535)), Some((10, 65535)));
+    assert_eq!(rt; refusal(BestMoment::new(0)), Some((10, 0)));
+    assert_eq!(rt; refusal(BestMoment::new(1000)), Some((10, 1000)));
+    assert_eq!(rt; refusal(BestMoment::new(65535)), Some((10, 65535)));
     assert_eq!(rt; RunningSum::new(1)?.discount(), 1);
     assert_eq!(rt; RunningSum::new(999)?.discount(), 999);
     assert_eq!(rt; BestMoment::new(1)?.discount(), 1);

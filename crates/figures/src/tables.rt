@@ -26,20 +26,21 @@ pub(crate) fn file_of(heap: Global, records: &[Words]) -> Result<Vec<u8>, AllocE
     Ok(bytes)
 }
 
-// The number and the value of the refusal of a file with these records, or (0, 0).
-fn refusal(heap: Global, records: &[Words]) -> Result<(u8, usize), AllocError> {
-    match Table::read(file_of(heap, records)?) {
-        Ok(_) => Ok((0, 0)),
-        Err(fault) => Ok((fault.number(), fault.value())),
-    }
+fn pond(heap: Global) -> Result<Table, Fail> {
+    Ok(Table::read(file_of(heap, &POND)?)?)
+}
+
+// The number and the value of the refusal of a file with these records, if it is refused.
+fn refusal(heap: Global, records: &[Words]) -> Result<Option<(u8, usize)>, AllocError> {
+    let read = Table::read(file_of(heap, records)?);
+    Ok(read.err().map(|fault| (fault.number(), fault.value())))
 }
 
 // The same for a table of one state and this many settings, all in order.
-fn one_state_refusal(heap: Global, settings: u16) -> Result<(u8, usize), AllocError> {
-    let mut records: Vec<Words> = Vec::new(heap);
-    for setting in 0..settings {
-        records.push([0, setting, 0, 0])?;
-    }
+fn one_state_refusal(heap: Global, settings: u16) -> Result<Option<(u8, usize)>, AllocError> {
+    let records: Vec<Words> = (0..settings)
+        .map(|setting| [0, setting, 0, 0])
+        .collect(heap)?;
     refusal(heap, records.as_slice())
 }
 
@@ -50,9 +51,7 @@ fn told_zeros(heap: Global, n: usize) -> Result<String, AllocError> {
 
 #[test]
 fn the_pond_steps_as_it_says(rt: HostRuntime) -> Result<(), Fail> {
-    let Ok(pond) = Table::read(file_of(rt.alloc(), &POND)?) else {
-        return Err(Fail::new("the pond is refused"));
-    };
+    let pond = pond(rt.alloc())?;
     assert_eq!(rt; pond.states(), 2);
     assert_eq!(rt; pond.settings(), 2);
     assert_eq!(rt; pond.record_count(), 4);
@@ -73,9 +72,7 @@ fn the_pond_steps_as_it_says(rt: HostRuntime) -> Result<(), Fail> {
 
 #[test]
 fn the_pond_knows_two_states(rt: HostRuntime) -> Result<(), Fail> {
-    let Ok(pond) = Table::read(file_of(rt.alloc(), &POND)?) else {
-        return Err(Fail::new("the pond is refused"));
-    };
+    let pond = pond(rt.alloc())?;
     assert!(rt; pond.knows(1));
     assert!(rt; !pond.knows(2));
     assert!(rt; pond.same(1, 1));
@@ -95,9 +92,7 @@ fn the_pond_knows_two_states(rt: HostRuntime) -> Result<(), Fail> {
 
 #[test]
 fn a_walk_ends_or_tells_its_place(rt: HostRuntime) -> Result<(), Fail> {
-    let Ok(pond) = Table::read(file_of(rt.alloc(), &POND)?) else {
-        return Err(Fail::new("the pond is refused"));
-    };
+    let pond = pond(rt.alloc())?;
     assert_eq!(rt; walk(&pond, 0, &[]), Ok(0));
     assert_eq!(rt; walk(&pond, 0, &[1, 0, 0]), Ok(1));
     let fault = ModelFault::UnknownSetting { layers: 0 };
@@ -112,14 +107,14 @@ fn a_walk_ends_or_tells_its_place(rt: HostRuntime) -> Result<(), Fail> {
 
 #[test]
 fn files_are_refused_by_3_and_4(rt: HostRuntime) -> Result<(), Fail> {
-    assert_eq!(rt; refusal(rt.alloc(), &[])?, (3, 0));
+    assert_eq!(rt; refusal(rt.alloc(), &[])?, Some((3, 0)));
     // one state with 16 settings is accepted; with 17 the count is N × K and only the last setting is wrong
-    assert_eq!(rt; one_state_refusal(rt.alloc(), 16)?, (0, 0));
-    assert_eq!(rt; one_state_refusal(rt.alloc(), 17)?, (4, 16));
+    assert_eq!(rt; one_state_refusal(rt.alloc(), 16)?, None);
+    assert_eq!(rt; one_state_refusal(rt.alloc(), 17)?, Some((4, 16)));
     // 2 states and 2 settings, but 3 records
     assert_eq!(rt;
         refusal(rt.alloc(), &[[0, 0, 0, 0], [0, 1, 0, 0], [1, 1, 0, 0]])?,
-        (4, 2)
+        Some((4, 2))
     );
     Ok(())
 }
@@ -131,27 +126,27 @@ fn records_are_refused_by_5_6_and_7(rt: HostRuntime) -> Result<(), Fail> {
             rt.alloc(),
             &[[0, 0, 0, 0], [0, 0, 0, 0], [1, 0, 0, 0], [1, 1, 0, 0]],
         )?,
-        (5, 1)
+        Some((5, 1))
     );
     assert_eq!(rt;
         refusal(rt.alloc(), &[[0, 0, 1, 1000], [0, 1, 2, 1001]])?,
-        (6, 0)
+        Some((6, 0))
     );
     assert_eq!(rt;
         refusal(rt.alloc(), &[[0, 0, 0, 1000], [0, 1, 1, 1001]])?,
-        (6, 1)
+        Some((6, 1))
     );
     assert_eq!(rt;
         refusal(rt.alloc(), &[[0, 0, 0, 1001], [0, 1, 1, 0]])?,
-        (7, 0)
+        Some((7, 0))
     );
     assert_eq!(rt;
         refusal(rt.alloc(), &[[0, 0, 0, 1000], [0, 1, 0, 1001]])?,
-        (7, 1)
+        Some((7, 1))
     );
     assert_eq!(rt;
         refusal(rt.alloc(), &[[0, 0, 0, 1000], [0, 1, 0, 1000]])?,
-        (0, 0)
+        None
     );
     Ok(())
 }

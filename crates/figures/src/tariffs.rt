@@ -7,10 +7,8 @@ use table::Table;
 
 // A table of one state and two settings, which earn 200 and 500.
 fn one_state(heap: Global) -> Result<Table, Fail> {
-    match Table::read(file_of(heap, &[[0, 0, 0, 200], [0, 1, 0, 500]])?) {
-        Ok(table) => Ok(table),
-        Err(_) => Err(Fail::new("the table is refused")),
-    }
+    let file = file_of(heap, &[[0, 0, 0, 200], [0, 1, 0, 500]])?;
+    Ok(Table::read(file)?)
 }
 
 // Charges of 300, but 600 for the hour 23.
@@ -26,21 +24,17 @@ fn the_first_high_charge_is_refused(rt: HostRuntime) -> Result<(), Fail> {
     assert!(rt; Tariff::new(charges, 0u8).is_ok());
     charges[5] = 1001;
     charges[4] = 1001;
-    match Tariff::new(charges, one_state(rt.alloc())?) {
-        Ok(_) => Err(Fail::new("a charge of 1,001 is accepted")),
-        Err(fault) => {
-            assert_eq!(rt; fault.number(), 9);
-            assert_eq!(rt; fault.hour(), 4);
-            Ok(())
-        }
-    }
+    let refused = Tariff::new(charges, one_state(rt.alloc())?).err();
+    assert_eq!(rt;
+        refused.map(|fault| (fault.number(), fault.hour())),
+        Some((9, 4))
+    );
+    Ok(())
 }
 
 #[test]
 fn every_setting_but_0_is_charged(rt: HostRuntime) -> Result<(), Fail> {
-    let Ok(tariff) = Tariff::new(charges_of_300_but_600_at_23(), one_state(rt.alloc())?) else {
-        return Err(Fail::new("the charges are refused"));
-    };
+    let tariff = Tariff::new(charges_of_300_but_600_at_23(), one_state(rt.alloc())?)?;
     assert_eq!(rt; tariff.settings(), 2);
     assert_eq!(rt; tariff.step((0, 0), 0), Ok((200, (1, 0))));
     assert_eq!(rt; tariff.step((0, 0), 1), Ok((200, (1, 0))));
@@ -52,9 +46,7 @@ fn every_setting_but_0_is_charged(rt: HostRuntime) -> Result<(), Fail> {
 
 #[test]
 fn the_hour_is_checked_first(rt: HostRuntime) -> Result<(), Fail> {
-    let Ok(tariff) = Tariff::new(charges_of_300_but_600_at_23(), one_state(rt.alloc())?) else {
-        return Err(Fail::new("the charges are refused"));
-    };
+    let tariff = Tariff::new(charges_of_300_but_600_at_23(), one_state(rt.alloc())?)?;
     assert_eq!(rt;
         tariff.step((24, 9), 9),
         Err(ModelFault::UnknownState { layers: 0 })
@@ -77,12 +69,8 @@ fn the_hour_is_checked_first(rt: HostRuntime) -> Result<(), Fail> {
 
 #[test]
 fn a_tariff_over_a_tariff_adds_a_layer(rt: HostRuntime) -> Result<(), Fail> {
-    let Ok(inner) = Tariff::new([100; 24], one_state(rt.alloc())?) else {
-        return Err(Fail::new("the charges are refused"));
-    };
-    let Ok(outer) = Tariff::new(charges_of_300_but_600_at_23(), inner) else {
-        return Err(Fail::new("the charges are refused"));
-    };
+    let inner = Tariff::new([100; 24], one_state(rt.alloc())?)?;
+    let outer = Tariff::new(charges_of_300_but_600_at_23(), inner)?;
     assert_eq!(rt; outer.step((22, (23, 0)), 1), Ok((100, (23, (0, 0)))));
     assert_eq!(rt;
         outer.step((24, (24, 9)), 9),

@@ -1,5 +1,5 @@
 -- The first test that fails: by its place in the list, and what it says of each test.
-use Rattle.std.proofs.Common.{◌≡◌, ℕ, zero, suc, ◌+◌, ◌<◌, Bool, true, false, List, [], ◌∷◌, ◌++◌, map, length, get_or, Some, None, Option, sym, refl, ap, ◌∙◌, arith, add-zero}
+use Rattle.std.proofs.Common.{◌≡◌, ℕ, zero, suc, ◌+◌, ◌<◌, Bool, true, false, List, [], ◌∷◌, map, length, get_or, Some, None, Option, sym, refl, ap, ◌∙◌, arith}
 use Rattle.std.specs.Prelude.{not, position}
 use Rattle.std.specs.Option.{option_map}
 use Rattle.model.specs.First.{first_false}
@@ -16,19 +16,6 @@ moved_by_0 (Some i) = ap Some (omega arith)
 -- numbered from 0, its number is its place
 pub place_is_first : {A : Type 0} (ok : A → Bool) (xs : List A) → position (λ x. not (ok x)) xs ≡ first_false 0 (map ok xs)
 place_is_first ok xs = sym (first_by_place ok 0 xs ∙ moved_by_0 _)
-
--- of two lists one behind the other, the first failure in front decides, and where there is none that behind
-pub first_in_front : (n : ℕ) (fs bs : List Bool) (k : ℕ) → Some k ≡ first_false n fs → Some k ≡ first_false n (fs ++ bs)
-first_in_front n [] bs k e = cc
-first_in_front n (true ∷ fs) bs k e = first_in_front (n + 1) fs bs k e
-first_in_front n (false ∷ fs) bs k e = e
-
-pub first_behind : (n : ℕ) (fs bs : List Bool) (o : Option ℕ) → None ≡ first_false n fs → o ≡ first_false (n + length fs) bs → o ≡ first_false n (fs ++ bs)
-first_behind n [] bs o e b = rw add-zero at b
-first_behind n (true ∷ fs) bs o e b =
-    let same : n + suc (length fs) ≡ n + 1 + length fs = omega arith in
-    first_behind (n + 1) fs bs o e (b ∙ ap (λ (k : ℕ). first_false k bs) same)
-first_behind n (false ∷ fs) bs o e b = cc
 
 -- where none fails, each passes
 pub each_passes : (n : ℕ) (bs : List Bool) → first_false n bs ≡ None → (i : ℕ) → get_or bs i true ≡ true

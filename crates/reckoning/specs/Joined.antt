@@ -7,7 +7,7 @@ use Rattle.model.specs.Meaning.{highest_mark}
 use Rattle.reckoning.specs.Grains.{whole, highest_ceiling, grains_of, rounded_up}
 use Rattle.reckoning.specs.Meaning.{Laws}
 use Rattle.reckoning.specs.Kinds.{joined_terms}
-use Rattle.reckoning.specs.Roundings.{down_rises, up_rises, down_below, up_above}
+use Rattle.reckoning.specs.Roundings.{down_rises, up_rises, down_below, up_above, up_of_sum}
 
 -- what is asked of the way that two terms are joined
 pub record Joins (join : ℕ → ℕ → ℕ) : Type 0 where
@@ -29,7 +29,7 @@ up_scaled g n a num h = omega (arith, one_whole_more (rounded_up (g * a) whole) 
 
 -- a greater rest, rounded up, is at most the smaller one rounded down and their difference rounded up, and one more
 apart : (g a b : ℕ) → b ≤ a → rounded_up (g * a) whole ≤ g * b / whole + (rounded_up (g * (a - b)) whole + 1)
-apart g a b h = grind (arith, mul-add g b (a - b))
+apart g a b h = grind (arith, mul-add g b (a - b), up_of_sum (g * b) (g * (a - b)))
 
 -- Every such reckoning meets the law, if its ceiling is in range and stays under the high joining.
 module _ (join : ℕ → ℕ → ℕ) (g ceiling : ℕ) (joins : Joins join) where

@@ -1,5 +1,5 @@
 -- Rounding down and up.
-use Rattle.std.specs.Prelude.{ℕ, ◌*◌, ◌/◌, ◌<◌, ◌≤◌}
+use Rattle.std.specs.Prelude.{ℕ, ◌+◌, ◌*◌, ◌/◌, ◌<◌, ◌≤◌}
 use Rattle.std.proofs.Common.{arith}
 use Rattle.reckoning.specs.Grains.{whole, rounded_up}
 
@@ -17,6 +17,17 @@ down_below x = omega arith
 pub up_above : (x : ℕ) → x ≤ rounded_up x whole * whole
 up_above x = omega arith
 
--- also by another divisor
+-- nor above any whole number that covers what is rounded
+pub up_least : (x q : ℕ) → x ≤ q * whole → rounded_up x whole ≤ q
+up_least x q h = omega arith
+
+-- rounding a sum up is at most rounding one part down and the other up, and one more
+pub up_of_sum : (x y : ℕ) → rounded_up (x + y) whole ≤ x / whole + (rounded_up y whole + 1)
+up_of_sum x y = omega arith
+
+-- by any divisor: what is rounded up is not below the quotient, and not above the dividend
 pub up_covers : (x b : ℕ) → 0 < b → x ≤ rounded_up x b * b
 up_covers x b pos = grind arith
+
+pub up_at_most_itself : (x b : ℕ) → 0 < b → rounded_up x b ≤ x
+up_at_most_itself x b pos = grind arith

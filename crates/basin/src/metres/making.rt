@@ -73,7 +73,7 @@ fn first_setting_out(settings: &[CostedSetting]) -> Option<usize>
 }
 
 // Refuses the first setting that is out of range, if there is one.
-#[tactic(auto, using(crate::proofs::Makings::first_by_place))]
+#[tactic(auto, using(model::proofs::Firsts::first_by_place))]
 fn check_each(settings: &[CostedSetting]) -> Result<(), BadParameter>
     requires { length settings.now ≤ 8 }
     ensures { result ≡ judged (first_false 6 (map setting_in_range settings.now)) tt }
