@@ -1,5 +1,5 @@
-ghost use Rattle.std.specs.Prelude.{◌≡◌, ◌*◌, ◌/◌, ◌<◌, ◌≤◌};
-ghost use Rattle.reckoning.specs.Grains.{whole, highest_ceiling, counted, grains_of, rounded_up};
+ghost use Rattle.std.specs.Prelude.{◌≡◌};
+ghost use Rattle.reckoning.specs.Grains.{counted, grains_of};
 
 use model::HIGHEST_MARK;
 

@@ -1,15 +1,21 @@
-ghost use Rattle.std.specs.Prelude.{max, refl};
+ghost use Rattle.std.specs.Prelude.{◌≡◌, max, refl};
 ghost use Rattle.reckoning.specs.Kinds.{best_moment};
 ghost use Rattle.reckoning.specs.KindLaws.{moment_laws};
 
 use crate::discounts::Discount;
 use crate::grains::grains_of;
+use crate::joinings::Reckoning;
 use crate::kinds::{Discounted, Kind};
 use model::HIGHEST_MARK;
 
 // The best moment: only the mark that counts for most.
 // In the field's terms: the discounted maximum of the rewards.
 pub type BestMoment = Discounted<TakingLarger>;
+
+// Does nothing: its contract says what a best moment means.
+pub fn best_moment_meaning(moment: &BestMoment)
+    ensures { ⟦<BestMoment as Reckoning>⟧.meaning moment.now ≡ best_moment moment.now.discount.thousandths }
+{}
 
 // The kind of the best moment: the larger of the two terms is taken.
 #[derive(Clone, Copy, Debug, PartialEq, Eq)]

@@ -1,15 +1,21 @@
-ghost use Rattle.std.specs.Prelude.{◌+◌, refl};
+ghost use Rattle.std.specs.Prelude.{◌≡◌, ◌+◌, refl};
 ghost use Rattle.reckoning.specs.Kinds.{running_sum};
 ghost use Rattle.reckoning.specs.KindLaws.{sum_laws};
 
 use crate::discounts::{Discount, WHOLE};
 use crate::grains::grains_of;
+use crate::joinings::Reckoning;
 use crate::kinds::{Discounted, Kind};
 use model::HIGHEST_MARK;
 
 // The running sum: every mark counts, and a later one counts less.
 // In the field's terms: the discounted sum of the rewards.
 pub type RunningSum = Discounted<Adding>;
+
+// Does nothing: its contract says what a running sum means.
+pub fn running_sum_meaning(sum: &RunningSum)
+    ensures { ⟦<RunningSum as Reckoning>⟧.meaning sum.now ≡ running_sum sum.now.discount.thousandths }
+{}
 
 // The kind of the running sum: the two terms are added.
 #[derive(Clone, Copy, Debug, PartialEq, Eq)]
