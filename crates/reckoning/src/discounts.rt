@@ -1,6 +1,5 @@
 ghost use Rattle.std.specs.Prelude.{◌≡◌, ◌*◌, ◌/◌, ◌<◌, ◌≤◌};
 ghost use Rattle.reckoning.specs.Grains.{whole, highest_ceiling, rounded_up};
-ghost use Rattle.reckoning.specs.Worths.{one_deeper};
 
 use crate::fault::BadDiscount;
 
@@ -63,16 +62,9 @@ impl Discount {
     // The grains times the discount, rounded up.
     pub(crate) fn rounded_up(self, grains: u64) -> u64
         requires { grains ≤ highest_ceiling }
-        ensures { result ≡ rounded_up (self.thousandths * grains) whole }
+        ensures value { result ≡ rounded_up (self.thousandths * grains) whole }
+        ensures at_most_grains { result ≤ grains }
     {
         (u64::from(self.thousandths) * grains).div_ceil(u64::from(WHOLE))
-    }
-
-    // The width one deeper: the width times the discount, rounded up, plus 1.
-    pub(crate) fn one_deeper(self, width: u64) -> u64
-        requires { width ≤ highest_ceiling }
-        ensures { result ≡ one_deeper self.thousandths width }
-    {
-        self.rounded_up(width) + 1
     }
 }

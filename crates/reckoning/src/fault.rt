@@ -2,6 +2,7 @@ ghost use Rattle.std.specs.Prelude.{◌≡◌};
 ghost use Rattle.reckoning.specs.Making.{discount_number, refused_discount};
 
 // Refusal 10, with the discount: it is not 1 to 999.
+// It is a type of its own, and not one type for every refusal of one case, so that its value is named a discount.
 #[derive(Clone, Copy, PartialEq, Eq, Debug)]
 pub struct BadDiscount {
     pub discount: u16,

@@ -40,7 +40,7 @@ pub fn width<R: Reckoning>(reckoning: &R, depth: u8) -> u64
     };
     let mut width = reckoning.ceiling();
     for _ in 0..depth {
-        width = discount.one_deeper(width);
+        width = discount.rounded_up(width) + 1;
     }
     width
 }

@@ -78,6 +78,7 @@ fn check_each(settings: &[CostedSetting]) -> Result<(), BadParameter>
     requires { length settings.now ≤ 8 }
     ensures { result ≡ judged (first_false 6 (map setting_in_range settings.now)) tt }
 {
+    // a place is below 8, so `as` loses nothing; `try_from` would add a refusal that never comes
     match first_setting_out(settings) {
         Some(place) => Err(BadParameter {
             parameter: FIRST_SETTING + place as u8,
@@ -108,6 +109,7 @@ impl Basin {
         places[..settings.len()].copy_from_slice(settings);
         Basin {
             measures,
+            // at most 8, so `as` loses nothing
             count: settings.len() as u8,
             settings: places,
         }

@@ -37,6 +37,7 @@ fn first_high_charge(charges: &[u16; 24]) -> Option<usize>
 fn check(charges: &[u16; 24]) -> Result<(), BadCharge>
     ensures { result ≡ refused_at (first_high_charge charges.now) tt }
 {
+    // an hour is below 24, so `as` loses nothing; `try_from` would add a refusal that never comes
     match first_high_charge(charges) {
         Some(hour) => Err(BadCharge { hour: hour as u8 }),
         None => Ok(()),

@@ -33,6 +33,7 @@ impl Shape {
         }
         let shape = Shape {
             states: usize::from(last.state) + 1,
+            // below 16, so `as` loses nothing
             settings: last.setting as u8 + 1,
         };
         (number == shape.record_count()).then_some(shape)
