@@ -27,6 +27,7 @@ pub struct Record {
 #[derive(Drop)]
 pub struct Table {
     bytes: Vec<u8>,
+    // N and K
     shape: Shape,
     ghost complete: { vec_len bytes ≡ record_bytes * (shape.states * shape.settings) },
     ghost next_known: { (i : ℕ) → i < shape.states * shape.settings → (record_at bytes.items i).next < shape.states },

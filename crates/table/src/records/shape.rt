@@ -46,7 +46,8 @@ impl Shape {
         self.states * usize::from(self.settings)
     }
 
-    // Refuses this record, the one numbered i, if it breaks a rule: by its order, its next state, its mark.
+    // Refuses this record as the one numbered i: by 5 if it is out of order, else by 6 if its
+    // next state is unknown, else by 7 if its mark is too high.
     fn check(self, i: usize, found: Record) -> Result<(), TableFault>
         ensures { result ≡ unless (fault_in self.states self.settings i found) tt }
     {
