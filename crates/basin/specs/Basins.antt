@@ -1,20 +1,22 @@
 -- The laws of a basin: by its comparisons the next level and inflow are known, whatever the rounding.
-use Rattle.std.specs.Prelude.{◌≡◌, ℕ, true, length, refl, Float}
+use Rattle.std.specs.Prelude.{◌≡◌, ℕ, ◌<◌, ◌≤◌, true, length, Some, None, slice_index_or, refl, Float}
 use Rattle.std.proofs.Common.{ap, ◌∙◌, arith}
 use Rattle.std.specs.Float.{binary64}
 use Rattle.std.specs.Float.Ieee.{fits, add, le, of_bits}
 use Rattle.std.specs.Float.Ieee.Fits.{sub-fits, mul-fits}
 use Rattle.std.specs.Float.Ieee.Bits.{of_bits-to_bits, of_bits-fits, is_true}
 use Rattle.std.proofs.lemmas.Float.{T_from_true}
-use Rattle.std.proofs.lemmas.List.{length-take-le}
+use Rattle.std.proofs.lemmas.List.{length-take-le, get_or-take}
+use Rattle.std.proofs.lemmas.Bool.{cond-true, cond-false, lt-ltb, le-ltb}
 use Rattle.model.specs.Meaning.{Laws}
 use Rattle.basin.specs.Bits.{water_of, bits_of}
 use Rattle.basin.specs.Making.{parameters}
 use Rattle.basin.specs.Numbers.{zero, ten}
 use Rattle.basin.specs.Ranges.{Parameters, within}
-use Rattle.basin.specs.Stepping.{water, basin, setting_at, next, outflow_of}
+use Rattle.basin.specs.Stepping.{water, basin, setting_at, setting_numbered, next, outflow_of}
 use Rattle.basin.specs.Floats.{le_itself, eq_itself, le_number}
 use Rattle.basin.specs.declared.metres.Basin.{Basin}
+use Rattle.basin.specs.declared.metres.Setting.TheVariants.{Rest}
 use Rattle.basin.specs.declared.metres.Water.{Water}
 use Rattle.basin.specs.declared.metres.WaterBits.{WaterBits}
 
@@ -49,6 +51,13 @@ itself p w e = grind (arith, le_number zero w.level, eq_itself w.level, le_numbe
 -- a basin has as many settings as it counts
 pub settings_counted : (b : Basin) → length (parameters b).settings ≡ b.count
 settings_counted b = length-take-le b.count b.settings (omega arith)
+
+-- the setting with a number below the count is the one at that place, and there is none behind
+pub numbered : (b : Basin) (k : ℕ) → k < b.count → setting_numbered (parameters b) k ≡ Some (slice_index_or b.settings k (record { setting = Rest; cost = 0 }))
+numbered b k h = let counted = settings_counted b in cond-true _ _ _ (lt-ltb k _ (omega arith)) ∙ ap Some (get_or-take b.count b.settings k _ h)
+
+pub none_numbered : (b : Basin) (k : ℕ) → b.count ≤ k → setting_numbered (parameters b) k ≡ None
+none_numbered b k h = let counted = settings_counted b in cond-false _ _ _ (le-ltb k _ (omega arith))
 
 -- what every model owes, of a basin
 pub basin_laws : (b : Basin) → Laws WaterBits (basin (parameters b))
