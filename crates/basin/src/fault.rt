@@ -5,7 +5,8 @@ ghost use Rattle.basin.specs.Faults.{number as number_of, parameter as parameter
 const OUT_OF_RANGE: u8 = 8;
 
 // Refusal 8, with the number of the parameter, from 1: the first parameter of a basin that is out of range.
-// A struct and no enum of parameters: the rules refuse by a number, and settings are numbered on from 6.
+// A struct and no enum of parameters: what the contracts say of refusal 8 they say of every number, and
+// settings are numbered on from 6.
 #[derive(Clone, Copy, PartialEq, Eq, Debug)]
 pub struct BadParameter {
     pub parameter: u8,

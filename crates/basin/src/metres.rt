@@ -16,7 +16,8 @@ pub struct Water {
     pub inflow: f64,
 }
 
-// The bits of a level and of an inflow.
+// The bits of a level and of an inflow. A rule of the project has the two as two plain structs, one of doubles
+// to work on and one of words to keep, and not as one with a parameter.
 #[derive(Clone, Copy, PartialEq, Eq, Debug)]
 pub struct WaterBits {
     pub level: u64,
@@ -62,7 +63,7 @@ const PLACES: usize = 8;
 pub struct Basin {
     measures: Measures,
     // K, the number of settings. It stands beside a plain array, and both are no `Vec`, since a basin
-    // is copied and takes no memory.
+    // is copied and takes no memory from the heap.
     count: u8,
     settings: [CostedSetting; PLACES],
     ghost one_setting: { 1 ≤ count },

@@ -7,6 +7,13 @@ const NAN: u64 = 0x7ff8_0000_0000_0001;
 
 const MINUS_ZERO: u64 = 0x8000_0000_0000_0000;
 
+const SMALL: Measures = Measures {
+    depth: 4.0,
+    target: 2.0,
+    band: 0.5,
+    fade: 0.5,
+};
+
 // the refusal of an unknown state
 const UNKNOWN: ModelFault = ModelFault::UnknownState { layers: 0 };
 
@@ -37,7 +44,7 @@ fn measures(depth: f64, target: f64, band: f64, fade: f64) -> Measures {
 }
 
 fn small_basin() -> Result<Basin, BadParameter> {
-    Basin::new(measures(4.0, 2.0, 0.5, 0.5), &three_settings())
+    Basin::new(SMALL, &three_settings())
 }
 
 // The mark of a step, or its refusal.
@@ -52,7 +59,8 @@ fn after(basin: &Basin, level: f64, inflow: f64, setting: u8) -> Result<(f64, f6
     Ok((next.level, next.inflow))
 }
 
-// The number of the refusal and of the parameter, if these are refused.
+// The number of the refusal and of the parameter, if these are refused. Tables and reckonings have the like of
+// it; each tells a value with a name of its own, so that one for all would be handed what to tell, and be no shorter.
 fn refusal(measures: Measures, settings: &[CostedSetting]) -> Option<(u8, u8)> {
     let refused = Basin::new(measures, settings).err()?;
     Some((refused.number(), refused.parameter()))
@@ -146,44 +154,26 @@ fn the_first_parameter_out_of_range_is_refused(rt: HostRuntime) {
     );
     assert_eq!(rt; refusal(measures(4.0, 2.0, 0.0, 2.0), &three), Some((8, 3)));
     assert_eq!(rt; refusal(measures(4.0, 2.0, 0.5, 1.25), &[]), Some((8, 4)));
-    assert_eq!(rt; refusal(measures(4.0, 2.0, 0.5, 0.5), &[]), Some((8, 5)));
+    assert_eq!(rt; refusal(SMALL, &[]), Some((8, 5)));
     assert_eq!(rt; refusal(measures(100.0, 0.0, 100.0, 1.0), &three), None);
 }
 
 #[test]
 fn a_setting_and_its_cost_are_one_parameter(rt: HostRuntime) {
+    assert_eq!(rt; refusal(SMALL, &only(Setting::Rest, 501)), Some((8, 6)));
     assert_eq!(rt;
-        refusal(measures(4.0, 2.0, 0.5, 0.5), &only(Setting::Rest, 501)),
+        refusal(SMALL, &only(Setting::Pump(10.25), 0)),
         Some((8, 6))
     );
-    assert_eq!(rt;
-        refusal(measures(4.0, 2.0, 0.5, 0.5), &only(Setting::Pump(10.25), 0)),
-        Some((8, 6))
-    );
-    assert_eq!(rt;
-        refusal(measures(4.0, 2.0, 0.5, 0.5), &only(Setting::Gate(1.25), 0)),
-        Some((8, 6))
-    );
-    assert_eq!(rt;
-        refusal(
-            measures(4.0, 2.0, 0.5, 0.5),
-            &only(Setting::Pump(10.0), 500)
-        ),
-        None
-    );
+    assert_eq!(rt; refusal(SMALL, &only(Setting::Gate(1.25), 0)), Some((8, 6)));
+    assert_eq!(rt; refusal(SMALL, &only(Setting::Pump(10.0), 500)), None);
     let rest = CostedSetting {
         setting: Setting::Rest,
         cost: 0,
     };
     let mut eight = [rest; 8];
-    assert_eq!(rt; refusal(measures(4.0, 2.0, 0.5, 0.5), &eight), None);
-    assert_eq!(rt;
-        refusal(measures(4.0, 2.0, 0.5, 0.5), &[rest; 9]),
-        Some((8, 5))
-    );
+    assert_eq!(rt; refusal(SMALL, &eight), None);
+    assert_eq!(rt; refusal(SMALL, &[rest; 9]), Some((8, 5)));
     eight[7].cost = 501;
-    assert_eq!(rt;
-        refusal(measures(4.0, 2.0, 0.5, 0.5), &eight),
-        Some((8, 13))
-    );
+    assert_eq!(rt; refusal(SMALL, &eight), Some((8, 13)));
 }

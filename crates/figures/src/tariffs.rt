@@ -1,7 +1,7 @@
 // Tariffs: their refusal, their charges, and tariffs over tariffs.
 use crate::tables::file_of;
-use model::{Model, ModelFault, Tariff};
-use std::alloc::{AllocError, Global};
+use model::{Charges, Model, ModelFault, Tariff};
+use std::alloc::Global;
 use std::test::Fail;
 use table::Table;
 
@@ -12,10 +12,14 @@ fn one_state(heap: Global) -> Result<Table, Fail> {
 }
 
 // Charges of 300, but 600 for the hour 23.
-fn charges_of_300_but_600_at_23() -> [u16; 24] {
+fn charges_of_300_but_600_at_23() -> Charges {
     let mut charges = [300; 24];
     charges[23] = 600;
     charges
+}
+
+fn tariff(heap: Global) -> Result<Tariff<Table>, Fail> {
+    Ok(Tariff::new(charges_of_300_but_600_at_23(), one_state(heap)?)?)
 }
 
 #[test]
@@ -34,7 +38,7 @@ fn the_first_high_charge_is_refused(rt: HostRuntime) -> Result<(), Fail> {
 
 #[test]
 fn every_setting_but_0_is_charged(rt: HostRuntime) -> Result<(), Fail> {
-    let tariff = Tariff::new(charges_of_300_but_600_at_23(), one_state(rt.alloc())?)?;
+    let tariff = tariff(rt.alloc())?;
     assert_eq!(rt; tariff.settings(), 2);
     assert_eq!(rt; tariff.step((0, 0), 0), Ok((200, (1, 0))));
     assert_eq!(rt; tariff.step((0, 0), 1), Ok((200, (1, 0))));
@@ -46,7 +50,7 @@ fn every_setting_but_0_is_charged(rt: HostRuntime) -> Result<(), Fail> {
 
 #[test]
 fn the_hour_is_checked_first(rt: HostRuntime) -> Result<(), Fail> {
-    let tariff = Tariff::new(charges_of_300_but_600_at_23(), one_state(rt.alloc())?)?;
+    let tariff = tariff(rt.alloc())?;
     assert_eq!(rt;
         tariff.step((24, 9), 9),
         Err(ModelFault::UnknownState { layers: 0 })

@@ -8,5 +8,5 @@ pub mod walking;
 
 pub use fault::ModelFault;
 pub use questions::{HIGHEST_MARK, MOST_SETTINGS, Model};
-pub use tariff::{BadCharge, Tariff};
+pub use tariff::{BadCharge, Charges, Tariff};
 pub use walking::{WalkFault, walk};

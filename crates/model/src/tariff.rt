@@ -8,6 +8,9 @@ ghost use Rattle.model.specs.Tariffs.{hours, highest_charge};
 // The hours of a day.
 pub const HOURS: u8 = 24;
 
+// A charge for each hour of the day.
+pub type Charges = [u16; 24];
+
 // The highest charge.
 pub const HIGHEST_CHARGE: u16 = 1000;
 
@@ -22,7 +25,7 @@ pub struct BadCharge {
 #[derive(Drop)]
 pub struct Tariff<M> {
     // what each hour takes off the mark of every setting but 0
-    charges: [u16; 24],
+    charges: Charges,
     model: M,
     ghost charges_in_range: { (h : ℕ) → h < hours → slice_index charges h ≤ highest_charge },
 }

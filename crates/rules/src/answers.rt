@@ -41,7 +41,8 @@ pub struct Report {
 // What take answers.
 #[derive(Clone, Copy, PartialEq, Eq, Debug)]
 pub struct Taken {
-    // whether the plan replaced the rows behind the kept ones; no Option, since both worths are told either way
+    // whether the plan replaced the rows behind the kept ones; no `Option`, since both worths are told either way,
+    // and no question of the two, since who is told need not know how a take compares them
     pub replaced: bool,
     // the low worth of the plan
     pub promise: u64,

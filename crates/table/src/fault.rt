@@ -2,7 +2,6 @@ ghost use Rattle.std.specs.Prelude.{◌≡◌, Some};
 ghost use Rattle.table.specs.Faults.{number as number_of, value as value_of, RefusalsNumbered};
 ghost use Rattle.table.specs.Listing.{refused_text};
 
-use std::error::Error;
 use std::fmt;
 
 // Why a table file is refused. Records are numbered from 0.
@@ -57,5 +56,3 @@ impl fmt::Display for TableFault {
         write!(f, "refused {} at {}", self.number(), self.value())
     }
 }
-
-impl Error for TableFault {}

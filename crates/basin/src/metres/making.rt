@@ -17,7 +17,17 @@ const LARGEST_DROP: f64 = 10.0;
 // The greatest cost of a setting.
 const HIGHEST_COST: u16 = 500;
 
-// The number of the first setting among the parameters.
+// The numbers of the parameters; settings are numbered on from the first.
+const DEPTH: u8 = 1;
+
+const TARGET: u8 = 2;
+
+const BAND: u8 = 3;
+
+const FADE: u8 = 4;
+
+const COUNT: u8 = 5;
+
 const FIRST_SETTING: u8 = 6;
 
 // Refuses the parameter with this number if it is out of range.
@@ -36,10 +46,10 @@ impl Measures {
     fn check(self) -> Result<(), BadParameter>
         ensures { result ≡ judged (first_false 1 (measure_ranges self)) tt }
     {
-        refuse_unless(above(self.depth, 0.0, DEEPEST), 1)?;
-        refuse_unless(within(self.target, 0.0, self.depth), 2)?;
-        refuse_unless(above(self.band, 0.0, self.depth), 3)?;
-        refuse_unless(within(self.fade, 0.0, 1.0), 4)
+        refuse_unless(above(self.depth, 0.0, DEEPEST), DEPTH)?;
+        refuse_unless(within(self.target, 0.0, self.depth), TARGET)?;
+        refuse_unless(above(self.band, 0.0, self.depth), BAND)?;
+        refuse_unless(within(self.fade, 0.0, 1.0), FADE)
     }
 }
 
@@ -78,7 +88,8 @@ fn check_each(settings: &[CostedSetting]) -> Result<(), BadParameter>
     requires { length settings.now ≤ 8 }
     ensures { result ≡ judged (first_false 6 (map setting_in_range settings.now)) tt }
 {
-    // a place is below 8, so `as` loses nothing; `try_from` would add a refusal that never comes
+    // A `match`, since `map_or(Ok(()), ..)` would say it backwards. The place is below 8; numbers counted
+    // beside the settings (`zip`) would need no `as`, but more words.
     match first_setting_out(settings) {
         Some(place) => Err(BadParameter {
             parameter: FIRST_SETTING + place as u8,
@@ -91,7 +102,7 @@ fn check_each(settings: &[CostedSetting]) -> Result<(), BadParameter>
 fn check_settings(settings: &[CostedSetting]) -> Result<(), BadParameter>
     ensures { result ≡ judged (first_false 5 (settings_ranges settings.now)) tt }
 {
-    refuse_unless((1..=PLACES).contains(&settings.len()), 5)?;
+    refuse_unless((1..=PLACES).contains(&settings.len()), COUNT)?;
     check_each(settings)
 }
 
@@ -109,7 +120,7 @@ impl Basin {
         places[..settings.len()].copy_from_slice(settings);
         Basin {
             measures,
-            // at most 8, so `as` loses nothing
+            // at most 8: `try_from` would need a case that never comes
             count: settings.len() as u8,
             settings: places,
         }

@@ -1,7 +1,8 @@
 ghost use Rattle.std.specs.Prelude.{◌≡◌};
 ghost use Rattle.basin.specs.Ranges.{within as lies_within, above_to};
 
-// Whether x lies from low to high; not-a-number never does.
+// Whether x lies from low to high; not-a-number never does. It is written as `above` is, for which there is no
+// range to ask.
 pub(crate) fn within(x: f64, low: f64, high: f64) -> bool
     ensures { result ≡ lies_within low high x }
 {

@@ -121,9 +121,9 @@ impl Basin {
         if !self.knows_water(state) {
             return Err(ModelFault::UnknownState { layers: 0 });
         }
-        let Some(costed) = self.setting_numbered(setting) else {
-            return Err(ModelFault::UnknownSetting { layers: 0 });
-        };
+        let costed = self
+            .setting_numbered(setting)
+            .ok_or(ModelFault::UnknownSetting { layers: 0 })?;
         let raw = costed.setting.raw_level(state);
         let level = self.measures.next_level(raw);
         let inflow = self.measures.next_inflow(state.inflow);

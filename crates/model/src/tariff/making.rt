@@ -1,7 +1,7 @@
 ghost use Rattle.std.specs.Prelude.{◌≡◌, not, position};
 ghost use Rattle.model.specs.TariffMaking.{charge_number, charge_hour, charge_in_range, first_high_charge, refused_at, Makes};
 
-use crate::tariff::{BadCharge, HIGHEST_CHARGE, Tariff};
+use crate::tariff::{BadCharge, Charges, HIGHEST_CHARGE, Tariff};
 
 impl BadCharge {
     // The number of the refusal, 9.
@@ -27,17 +27,18 @@ fn in_range(charge: u16) -> bool
 }
 
 // The first hour whose charge is out of range.
-fn first_high_charge(charges: &[u16; 24]) -> Option<usize>
+fn first_high_charge(charges: &Charges) -> Option<usize>
     ensures { result ≡ position (λ charge. not (charge_in_range charge)) charges.now }
 {
     charges.iter().position(|charge| !in_range(*charge))
 }
 
 // Refuses the first charge that is out of range.
-fn check(charges: &[u16; 24]) -> Result<(), BadCharge>
+fn check(charges: &Charges) -> Result<(), BadCharge>
     ensures { result ≡ refused_at (first_high_charge charges.now) tt }
 {
-    // an hour is below 24, so `as` loses nothing; `try_from` would add a refusal that never comes
+    // A `match`, since `map_or(Ok(()), ..)` would say it backwards. The hour is below 24; hours counted
+    // beside the charges (`zip`) would need no `as`, but more words.
     match first_high_charge(charges) {
         Some(hour) => Err(BadCharge { hour: hour as u8 }),
         None => Ok(()),
@@ -46,7 +47,7 @@ fn check(charges: &[u16; 24]) -> Result<(), BadCharge>
 
 impl<M: Drop> Tariff<M> {
     // A tariff with these charges, one for each hour, over this model.
-    pub fn new(charges: [u16; 24], model: M) -> Result<Tariff<M>, BadCharge>
+    pub fn new(charges: Charges, model: M) -> Result<Tariff<M>, BadCharge>
         ensures { Makes charges model result }
     {
         check(&charges)?;

@@ -4,7 +4,7 @@ ghost use Rattle.std.proofs.Common.{rules};
 
 use crate::fault::ModelFault;
 use crate::questions::Model as PlantModel;
-use crate::tariff::{HOURS, Tariff};
+use crate::tariff::{Charges, HOURS, Tariff};
 
 // The hour after this one; after 23 comes 0.
 fn hour_after(hour: u8) -> u8
@@ -15,7 +15,7 @@ fn hour_after(hour: u8) -> u8
 }
 
 // The mark that is left when every setting but 0 has paid the charge of the hour.
-fn charged(charges: &[u16; 24], hour: u8, setting: u8, mark: u16) -> u16
+fn charged(charges: &Charges, hour: u8, setting: u8, mark: u16) -> u16
     requires { hour < hours }
     ensures { result ≡ charged charges.now hour setting mark }
 {

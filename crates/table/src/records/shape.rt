@@ -28,13 +28,13 @@ impl Shape {
             ≡ (nat_lt last.setting most_settings && number == (last.state + 1) * (last.setting + 1)) }
         ensures sizes { IfSome result (λ s. (s.states ≡ last.state + 1) × (s.settings ≡ last.setting + 1)) }
     {
-        if last.setting >= u16::from(MOST_SETTINGS) {
+        let setting = u8::try_from(last.setting).ok()?;
+        if setting >= MOST_SETTINGS {
             return None;
         }
         let shape = Shape {
             states: usize::from(last.state) + 1,
-            // below 16, so `as` loses nothing
-            settings: last.setting as u8 + 1,
+            settings: setting + 1,
         };
         (number == shape.record_count()).then_some(shape)
     }
