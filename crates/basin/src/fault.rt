@@ -6,7 +6,8 @@ const OUT_OF_RANGE: u8 = 8;
 
 // Refusal 8, with the number of the parameter, from 1: the first parameter of a basin that is out of range.
 // A struct and no enum of parameters: what the contracts say of refusal 8 they say of every number, and
-// settings are numbered on from 6.
+// settings are numbered on from 6. It is a type of its own, and not one type for every refusal of one case, so
+// that its value is named a parameter.
 #[derive(Clone, Copy, PartialEq, Eq, Debug)]
 pub struct BadParameter {
     pub parameter: u8,

@@ -16,8 +16,8 @@ pub struct Water {
     pub inflow: f64,
 }
 
-// The bits of a level and of an inflow. A rule of the project has the two as two plain structs, one of doubles
-// to work on and one of words to keep, and not as one with a parameter.
+// The bits of a level and of an inflow. The two are two plain structs, one of doubles to work on and one of words
+// to keep, and not one with a parameter: docs/DECISIONS.md has this form.
 #[derive(Clone, Copy, PartialEq, Eq, Debug)]
 pub struct WaterBits {
     pub level: u64,

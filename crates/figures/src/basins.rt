@@ -53,10 +53,10 @@ fn mark(basin: &Basin, level: f64, inflow: f64, setting: u8) -> Result<u16, Mode
     Ok(mark)
 }
 
-// The level and the inflow after a step, or its refusal.
-fn after(basin: &Basin, level: f64, inflow: f64, setting: u8) -> Result<(f64, f64), ModelFault> {
+// The water after a step, or its refusal.
+fn after(basin: &Basin, level: f64, inflow: f64, setting: u8) -> Result<Water, ModelFault> {
     let (_, next) = basin.step_water(Water { level, inflow }, setting)?;
-    Ok((next.level, next.inflow))
+    Ok(next)
 }
 
 // The number of the refusal and of the parameter, if these are refused. Tables and reckonings have the like of
@@ -88,9 +88,27 @@ fn marks_follow_the_next_level(rt: HostRuntime) -> Result<(), Fail> {
 #[test]
 fn the_next_level_stays_within_the_basin(rt: HostRuntime) -> Result<(), Fail> {
     let basin = small_basin()?;
-    assert_eq!(rt; after(&basin, 3.5, 1.0, 0), Ok((4.0, 0.5)));
-    assert_eq!(rt; after(&basin, 0.25, 0.5, 1), Ok((0.0, 0.25)));
-    assert_eq!(rt; after(&basin, 2.0, 0.5, 2), Ok((1.5, 0.25)));
+    assert_eq!(rt;
+        after(&basin, 3.5, 1.0, 0),
+        Ok(Water {
+            level: 4.0,
+            inflow: 0.5
+        })
+    );
+    assert_eq!(rt;
+        after(&basin, 0.25, 0.5, 1),
+        Ok(Water {
+            level: 0.0,
+            inflow: 0.25
+        })
+    );
+    assert_eq!(rt;
+        after(&basin, 2.0, 0.5, 2),
+        Ok(Water {
+            level: 1.5,
+            inflow: 0.25
+        })
+    );
     Ok(())
 }
 

@@ -5,7 +5,7 @@ use std::test::Fail;
 use table::listing::listing;
 use table::{Record, Table, TableFault};
 
-// A record as state, setting, next state and mark.
+// A record as state, setting, next state and mark: the words of a file, which is made of them without the library.
 type Words = [u16; 4];
 
 const POND: [Words; 4] = [

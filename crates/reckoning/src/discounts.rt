@@ -41,7 +41,7 @@ impl Discount {
     fn in_range(thousandths: u16) -> bool
         ensures { result ≡ discount_in_range thousandths }
     {
-        0 < thousandths && thousandths < WHOLE
+        (1..WHOLE).contains(&thousandths)
     }
 
     // The discount in thousandths, 1 to 999.

@@ -94,7 +94,8 @@ impl<K: Kind> Reckoning for Discounted<K> {
     }
 }
 
-// Written out: `derive` and `derive_where` of `Clone` are refused beside a ghost field where the type has a parameter.
+// Written out: `derive` and `derive_where` of `Clone`, which `Copy` needs, are refused beside a ghost field where
+// the type has a parameter.
 impl<K: Kind> Copy for Discounted<K> {}
 
 impl<K: Kind> Clone for Discounted<K> {

@@ -158,7 +158,8 @@ impl StationFault {
     }
 }
 
-// A model's fault with no place yet: row or node 0, setting 0.
+// A model's fault with no place yet: row or node 0, setting 0. No `Option`: a refusal of another K has just these
+// numbers, and where there is a place, `at` gives it.
 impl From<ModelFault> for StepFault {
     ghost from_gives = { λ f r. r ≡ step_at 0 0 f };
 

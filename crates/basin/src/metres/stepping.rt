@@ -97,7 +97,7 @@ impl Basin {
 }
 
 // The questions and the step on doubles, passed by value. The model has the same on their bits, as
-// which a state lies in memory: a rule of the project keeps the two apart.
+// which a state lies in memory: docs/DECISIONS.md has the two apart.
 impl Basin {
     // Whether the level lies from 0 to the depth and the inflow from 0 to 10.
     pub fn knows_water(&self, state: Water) -> bool
