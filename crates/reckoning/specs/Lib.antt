@@ -2,6 +2,7 @@ pub mod Grains
 pub mod Meaning
 pub mod Worths
 pub mod Kinds
+pub mod Discounts
 pub mod Making
 pub mod KindLaws
 pub mod Joined

@@ -2,6 +2,7 @@
 use Rattle.std.specs.Prelude.{ℕ, Bool, cond, ◌&&◌, Ok, Err, Result, nat_lt}
 use Rattle.reckoning.specs.Grains.{whole}
 use Rattle.reckoning.specs.declared.fault.BadDiscount.{BadDiscount}
+use Rattle.reckoning.specs.Discounts.{thousandths_of}
 use Rattle.reckoning.specs.declared.discounts.Discount.{Discount}
 use Rattle.reckoning.specs.declared.kinds.Discounted.{Discounted}
 
@@ -22,10 +23,14 @@ made_with g = cond (discount_in_range g) (Ok g) (Err (record { discount = g }))
 
 -- the thousandths of the discount that was made
 abbrev pub thousandths_made : Result Discount BadDiscount → Result ℕ BadDiscount
-thousandths_made (Ok d) = Ok d.thousandths
+thousandths_made (Ok d) = Ok (thousandths_of d)
 thousandths_made (Err f) = Err f
 
--- the discount that a reckoning was made with; it says all that the reckoning means
+-- the discount of a reckoning, in thousandths; with its kind it says all that the reckoning means
+abbrev pub discount_of : {K : _} {kind : _} → Discounted K kind → ℕ
+discount_of r = thousandths_of r.discount
+
+-- the discount that a reckoning was made with
 abbrev pub discount_made : {K : _} {kind : _} → Result (Discounted K kind) BadDiscount → Result ℕ BadDiscount
-discount_made (Ok r) = Ok r.discount.thousandths
+discount_made (Ok r) = Ok (discount_of r)
 discount_made (Err f) = Err f

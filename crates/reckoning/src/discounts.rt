@@ -35,6 +35,7 @@ impl TryFrom<u16> for Discount {
 }
 
 impl Discount {
+    ghost use Rattle.reckoning.specs.Discounts.{thousandths_of};
     ghost use Rattle.reckoning.specs.Making.{discount_in_range};
 
     // Whether so many thousandths are in range.
@@ -46,7 +47,7 @@ impl Discount {
 
     // The discount in thousandths, 1 to 999.
     pub fn thousandths(self) -> u16
-        ensures { result ≡ self.thousandths }
+        ensures { result ≡ thousandths_of self }
     {
         self.thousandths
     }
@@ -54,7 +55,7 @@ impl Discount {
     // The grains times the discount, rounded down.
     pub(crate) fn rounded_down(self, grains: u64) -> u64
         requires { grains ≤ highest_ceiling }
-        ensures { result ≡ self.thousandths * grains / whole }
+        ensures { result ≡ thousandths_of self * grains / whole }
     {
         u64::from(self.thousandths) * grains / u64::from(WHOLE)
     }
@@ -62,7 +63,7 @@ impl Discount {
     // The grains times the discount, rounded up.
     pub(crate) fn rounded_up(self, grains: u64) -> u64
         requires { grains ≤ highest_ceiling }
-        ensures value { result ≡ rounded_up (self.thousandths * grains) whole }
+        ensures value { result ≡ rounded_up (thousandths_of self * grains) whole }
         ensures at_most_grains { result ≤ grains }
     {
         (u64::from(self.thousandths) * grains).div_ceil(u64::from(WHOLE))

@@ -3,6 +3,7 @@ pub mod moment;
 pub mod sum;
 
 ghost use Rattle.std.specs.Prelude.{◌≡◌, ℕ, ◌<◌, min, ⊤};
+ghost use Rattle.reckoning.specs.Discounts.{thousandths_of};
 ghost use Rattle.reckoning.specs.Grains.{whole};
 ghost use Rattle.reckoning.specs.Meaning.{Meaning, Laws};
 ghost use Rattle.reckoning.specs.Kinds.{joined_terms};
@@ -30,7 +31,7 @@ pub trait Kind {
 
     // The most that any list of marks is worth under this discount, in grains.
     fn ceiling(discount: Discount) -> u64
-        ensures { result ≡ (meaning_at discount.thousandths).ceiling };
+        ensures { result ≡ (meaning_at (thousandths_of discount)).ceiling };
 
     // Every reckoning of this kind joins the two terms so.
     ghost joins_terms: { (g : ℕ) → meaning_at g ≡ joined_terms join g (meaning_at g).ceiling };
@@ -46,7 +47,7 @@ pub struct Discounted<K: Kind> {
     // in grains; it is kept because every joining asks for it
     ceiling: u64,
     kind: PhantomData<K>,
-    ghost ceiling_of_discount: { ceiling ≡ (K.meaning_at discount.thousandths).ceiling },
+    ghost ceiling_of_discount: { ceiling ≡ (K.meaning_at (thousandths_of discount)).ceiling },
 }
 
 impl<K: Kind> Discounted<K> {
@@ -66,9 +67,11 @@ impl<K: Kind> Discounted<K> {
 }
 
 impl<K: Kind> Reckoning for Discounted<K> {
-    ghost meaning = { λ r. K.meaning_at r.discount.thousandths };
+    ghost use Rattle.reckoning.specs.Making.{discount_of};
 
-    ghost lawful = { λ r. K.lawful r.discount.thousandths r.discount.above_0 r.discount.below_whole };
+    ghost meaning = { λ r. K.meaning_at (discount_of r) };
+
+    ghost lawful = { λ r. K.lawful (discount_of r) r.discount.above_0 r.discount.below_whole };
 
     fn discount(&self) -> u16 {
         self.discount.thousandths()

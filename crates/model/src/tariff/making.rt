@@ -26,8 +26,8 @@ fn in_range(charge: u16) -> bool
     charge <= HIGHEST_CHARGE
 }
 
-// The first hour whose charge is out of range.
-fn first_high_charge(charges: &Charges) -> Option<usize>
+// The place of the first charge that is out of range.
+fn first_charge_out(charges: &Charges) -> Option<usize>
     ensures { result ≡ position (λ charge. not (charge_in_range charge)) charges.now }
 {
     charges.iter().position(|charge| !in_range(*charge))
@@ -39,7 +39,7 @@ fn check(charges: &Charges) -> Result<(), BadCharge>
 {
     // A `match`, since `map_or(Ok(()), ..)` would say it backwards. The hour is below 24; hours counted
     // beside the charges (`zip`) would need no `as`, but more words.
-    match first_high_charge(charges) {
+    match first_charge_out(charges) {
         Some(hour) => Err(BadCharge { hour: hour as u8 }),
         None => Ok(()),
     }

@@ -1,6 +1,7 @@
 ghost use Rattle.std.specs.Prelude.{◌≡◌, max, refl};
 ghost use Rattle.reckoning.specs.Kinds.{best_moment};
 ghost use Rattle.reckoning.specs.KindLaws.{moment_laws};
+ghost use Rattle.reckoning.specs.Making.{discount_of};
 
 use crate::discounts::Discount;
 use crate::grains::grains_of;
@@ -14,7 +15,7 @@ pub type BestMoment = Discounted<TakingLarger>;
 
 // Does nothing: its contract says what a best moment means.
 pub fn best_moment_meaning(moment: &BestMoment)
-    ensures { ⟦<BestMoment as Reckoning>⟧.meaning moment.now ≡ best_moment moment.now.discount.thousandths }
+    ensures { ⟦<BestMoment as Reckoning>⟧.meaning moment.now ≡ best_moment (discount_of moment.now) }
 {}
 
 // The kind of the best moment: the larger of the two terms is taken.

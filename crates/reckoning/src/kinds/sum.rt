@@ -1,6 +1,7 @@
 ghost use Rattle.std.specs.Prelude.{◌≡◌, ◌+◌, refl};
 ghost use Rattle.reckoning.specs.Kinds.{running_sum};
 ghost use Rattle.reckoning.specs.KindLaws.{sum_laws};
+ghost use Rattle.reckoning.specs.Making.{discount_of};
 
 use crate::discounts::{Discount, WHOLE};
 use crate::grains::grains_of;
@@ -14,7 +15,7 @@ pub type RunningSum = Discounted<Adding>;
 
 // Does nothing: its contract says what a running sum means.
 pub fn running_sum_meaning(sum: &RunningSum)
-    ensures { ⟦<RunningSum as Reckoning>⟧.meaning sum.now ≡ running_sum sum.now.discount.thousandths }
+    ensures { ⟦<RunningSum as Reckoning>⟧.meaning sum.now ≡ running_sum (discount_of sum.now) }
 {}
 
 // The kind of the running sum: the two terms are added.

@@ -37,6 +37,7 @@ impl Table {
     }
 
     // The record of a known state and a setting below K, or none where one is not.
+    #[tactic(auto, using(crate::proofs::Places::in_table))]
     pub(crate) fn record_of(&self, state: u16, setting: u8) -> Option<Record>
         ensures { let f = file self.now in result
             ≡ cond (nat_lt state f.states && nat_lt setting f.settings) (Some (record_of f state setting)) None }
