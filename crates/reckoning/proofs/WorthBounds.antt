@@ -14,11 +14,11 @@ front_marks (mark ∷ marks) more s = (s.0, front_marks marks more s.1)
 
 module _ (r : Meaning) (laws : Laws r) where
   -- one joining: low is at most high
-  low_joined_below_high : (mark a : ℕ) → mark ≤ highest_mark → a ≤ r.ceiling → r.low mark a ≤ r.high mark a
+  pub low_joined_below_high : (mark a : ℕ) → mark ≤ highest_mark → a ≤ r.ceiling → r.low mark a ≤ r.high mark a
   low_joined_below_high mark a s c = grind (arith, laws.low_below_exact 0 mark a a, laws.exact_below_high 0 mark a a)
 
   -- no joining is above the ceiling, whatever the mark and the rest
-  high_within_ceiling : (mark rest : ℕ) → r.high mark rest ≤ r.ceiling
+  pub high_within_ceiling : (mark rest : ℕ) → r.high mark rest ≤ r.ceiling
   high_within_ceiling mark rest = grind (arith, laws.high_counts mark rest, laws.high_rises (counted mark) (min rest r.ceiling) r.ceiling, laws.ceiling_stays (counted mark))
 
   pub low_within_ceiling : (mark rest : ℕ) → r.low mark rest ≤ r.ceiling
@@ -34,7 +34,7 @@ module _ (r : Meaning) (laws : Laws r) where
   low_below_ceiling [] s = omega arith
   low_below_ceiling (mark ∷ rest) s = low_within_ceiling mark (low_worth r rest)
 
-  low_below_high : (marks : List ℕ) → AreMarks marks → low_worth r marks ≤ high_worth r marks
+  pub low_below_high : (marks : List ℕ) → AreMarks marks → low_worth r marks ≤ high_worth r marks
   low_below_high [] s = omega arith
   low_below_high (mark ∷ rest) s =
       let c = high_below_ceiling rest s.1 in

@@ -1,4 +1,5 @@
 // Two kinds of reckoning. Both join the grains of the mark and the discounted rest.
+pub mod making;
 pub mod moment;
 pub mod sum;
 
@@ -9,7 +10,6 @@ ghost use Rattle.reckoning.specs.Meaning.{Meaning, Laws};
 ghost use Rattle.reckoning.specs.Kinds.{joined_terms};
 
 use crate::discounts::Discount;
-use crate::fault::BadDiscount;
 use crate::grains::grains_of;
 use crate::joinings::Reckoning;
 pub use moment::{BestMoment, TakingLarger};
@@ -48,22 +48,6 @@ pub struct Discounted<K: Kind> {
     ceiling: u64,
     kind: PhantomData<K>,
     ghost ceiling_of_discount: { ceiling ≡ (K.meaning_at (thousandths_of discount)).ceiling },
-}
-
-impl<K: Kind> Discounted<K> {
-    ghost use Rattle.reckoning.specs.Making.{discount_made, made_with};
-
-    // The reckoning with this discount, which is refused by 10 if it is not 1 to 999.
-    pub fn new(discount: u16) -> Result<Self, BadDiscount>
-        ensures { discount_made result ≡ made_with discount }
-    {
-        let discount = Discount::try_from(discount)?;
-        Ok(Discounted {
-            discount,
-            ceiling: K::ceiling(discount),
-            kind: PhantomData,
-        })
-    }
 }
 
 impl<K: Kind> Reckoning for Discounted<K> {
