@@ -62,10 +62,10 @@ const PLACES: usize = 8;
 #[derive(Clone, Copy, Debug)]
 pub struct Basin {
     measures: Measures,
-    // K, the number of settings. It stands beside a plain array, and both are no `Vec`, since a basin
-    // is copied and takes no memory from the heap.
-    count: u8,
     settings: [CostedSetting; PLACES],
+    // K, the number of settings. It stands beside a plain array, and both are no `Vec`, since a basin
+    // is copied and takes no memory from the heap; behind the array, since moving a basin then takes less.
+    count: u8,
     ghost one_setting: { 1 ≤ count },
     ghost few_settings: { count ≤ 8 },
     ghost places_for_settings: { length settings ≡ 8 },
